@@ -45,8 +45,3 @@ pub record RejectsFrom (before : Before) (place : ℕ) (bytes : List ℕ) (fault
 
 abbrev pub Rejects : List ℕ → WireFault → Type 0
 Rejects stream fault = RejectsFrom beginning 0 stream fault
-
--- a fault for want of memory says nothing of the stream
-abbrev pub Explains : List ℕ → WireFault → Type 0
-Explains stream Memory = Unit {0}
-Explains stream fault = Rejects stream fault

@@ -1,7 +1,7 @@
 //! Reading the message at the front of some bytes.
 ghost use Rattle.std.specs.Prelude.{◌≡◌, ◌≤◌, length, IfOk, IfErr};
 ghost use Rattle.std.specs.Int.{w32, w64};
-ghost use Rattle.apx_wire.specs.Judging.{judged, payload_judged, id_in, second_in, Gives};
+ghost use Rattle.apx_wire.specs.Judging.{judged, payload_judged, field_in, Gives};
 
 use crate::fault::WireFault;
 use crate::message::Message;
@@ -33,7 +33,7 @@ pub fn first_message(
 }
 
 fn first_id(bytes: &[u8]) -> Option<u64>
-    ensures { result ≡ id_in bytes.now }
+    ensures { result ≡ field_in w64 bytes.now }
 {
     if bytes.len() < 8 {
         return None;
@@ -44,7 +44,7 @@ fn first_id(bytes: &[u8]) -> Option<u64>
 }
 
 fn first_second(bytes: &[u8]) -> Option<u32>
-    ensures { result ≡ second_in bytes.now }
+    ensures { result ≡ field_in w32 bytes.now }
 {
     if bytes.len() < 4 {
         return None;
