@@ -13,7 +13,8 @@ use Rattle.apx_wire.specs.declared.fault.WireFault.TheVariants.{BadType, BadKey,
 use Rattle.apx_wire.specs.declared.message.Message.{Message}
 use Rattle.apx_wire.specs.declared.message.Message.TheVariants.{Payload, Begin, End, Checkpoint, Reset, EndOfStream}
 use Rattle.apx_wire.specs.Spelling.{AreBytes, IsTuple, IsMessage, tuple_spelling, spelling, BeginsWith}
-use Rattle.apx_wire.specs.Judging.{number_in, key_length_in, key_in, tuple_in, payload_judged, field_in, judged}
+use Rattle.apx_wire.specs.Judging.{number_in, key_length_in, key_in, tuple_in, payload_judged, field_in, judged, Gives}
+use Rattle.std.specs.Prelude.{IfOk, IfSome}
 use Rattle.apx_wire.proofs.Fields.{IsWide, wide16, wide32, wide64, AreBytes-drop, AreBytes-take, front-back, front-below, field_in-again, field_in-some}
 use Rattle.apx_wire.proofs.Payloads.{payload_judged-whole}
 
@@ -200,3 +201,47 @@ judged_again place (End id) rest fits = number_again w64 (2 ^ 64) wide64 9 End i
 judged_again place (Checkpoint id) rest fits = number_again w64 (2 ^ 64) wide64 9 Checkpoint id rest fits
 judged_again place (Reset second) rest fits = number_again w32 (2 ^ 32) wide32 5 Reset second rest fits
 judged_again place EndOfStream rest fits = refl
+
+-- the same of what a reader returned
+pub is_found : (r : Judgement) (place : ℕ) (bytes : List ℕ) → AreBytes bytes → Gives r (judged place bytes) → IfOk r (λ found. IfSome found (λ x. BeginsWith bytes x.0 x.1))
+is_found (Ok None) place bytes are given = tt
+is_found (Ok (Some x)) place bytes are given = judged_takes place bytes x.0 x.1 are given
+is_found (Err fault) place bytes are given = tt
+
+pub is_only : (r : Judgement) (place : ℕ) (bytes : List ℕ) (m : Message) (rest : List ℕ) → IsMessage m → bytes ≡ spelling m ++ rest → Gives r (judged place bytes) → Gives r (read m (length (spelling m)))
+is_only r place bytes m rest fits e given = subst (Gives r) (ap (judged place) e ∙ judged_again place m rest fits) given
+
+-- ---- no spelling begins another
+
+pub spelled_once : (a b : Message) (x y : List ℕ) → IsMessage a → IsMessage b → spelling a ++ x ≡ spelling b ++ y → (a ≡ b) × (x ≡ y)
+spelled_once a b x y fits-a fits-b e =
+    let same = read_is a b (length (spelling a)) (length (spelling b)) (sym (judged_again 0 a x fits-a) ∙ ap (judged 0) e ∙ judged_again 0 b y fits-b) in
+    (same.0, sym (drop_at (spelling a) x (length (spelling a)) refl) ∙ (λ i. drop (same.1 i) (e i)) ∙ drop_at (spelling b) y (length (spelling b)) refl)
+
+-- ---- where a place doesn't matter
+
+waiting : (a b c d f : Bool) (x y v w : WireFault) (m : Message) (n : ℕ) → cond a (Ok None) (cond b (Err x) (cond c (Ok None) (cond (not d) (Err y) (cond f (Ok None) (read m n))))) ≡ Ok None → cond a (Ok None) (cond b (Err v) (cond c (Ok None) (cond (not d) (Err w) (cond f (Ok None) (read m n))))) ≡ Ok None
+waiting true b c d f x y v w m n e = refl
+waiting false true c d f x y v w m n e = absurd cc
+waiting false false true d f x y v w m n e = refl
+waiting false false false false f x y v w m n e = absurd cc
+waiting false false false true f x y v w m n e = e
+
+no_none : (x : WireFault) → Path Judgement (Err x) (Ok None) → ⊥
+no_none x e = cc
+
+pub judged-unfinished : (p q : ℕ) (bytes : List ℕ) → judged p bytes ≡ Ok None → judged q bytes ≡ Ok None
+unfolding judged payload_judged
+judged-unfinished p q [] e = refl
+judged-unfinished p q (suc zero ∷ bytes) e =
+    let k = key_length_in bytes in
+    waiting (ltb (length bytes) 6) (ltb 1024 k) (ltb (length bytes) (6 + k)) (eqb (hash_of (key_in bytes)) (number_in bytes)) (ltb (length bytes) (14 + k)) (BadKey p) (BadNumber p) (BadKey q) (BadNumber q) (Payload (tuple_in bytes)) (15 + k) e
+judged-unfinished p q (suc (suc zero) ∷ bytes) e = e
+judged-unfinished p q (suc (suc (suc zero)) ∷ bytes) e = e
+judged-unfinished p q (suc (suc (suc (suc zero))) ∷ bytes) e = e
+judged-unfinished p q (suc (suc (suc (suc (suc zero)))) ∷ bytes) e = e
+judged-unfinished p q (suc (suc (suc (suc (suc (suc zero))))) ∷ bytes) e = e
+judged-unfinished p q (zero ∷ bytes) e = absurd (no_none (BadType p) e)
+judged-unfinished p q (suc (suc (suc (suc (suc (suc (suc kind)))))) ∷ bytes) e =
+    let high : 7 ≤ suc (suc (suc (suc (suc (suc (suc kind)))))) = omega arith in
+    absurd (no_none (BadType p) (sym (bad_type p (suc (suc (suc (suc (suc (suc (suc kind))))))) bytes high) ∙ e))

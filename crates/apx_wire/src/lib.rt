@@ -1,13 +1,16 @@
 //! Streams as bytes: each message's spelling, and a decoder of streams that come in any pieces.
 #![tactic(auto)]
 
+pub use decoder::Decoder;
 pub use fault::WireFault;
 pub use message::Message;
 pub use reading::first_message;
 pub use writing::write;
 
+mod decoder;
 mod fault;
 mod message;
 mod order;
 mod reading;
+mod whole;
 mod writing;
