@@ -245,3 +245,7 @@ judged-unfinished p q (zero ∷ bytes) e = absurd (no_none (BadType p) e)
 judged-unfinished p q (suc (suc (suc (suc (suc (suc (suc kind)))))) ∷ bytes) e =
     let high : 7 ≤ suc (suc (suc (suc (suc (suc (suc kind)))))) = omega arith in
     absurd (no_none (BadType p) (sym (bad_type p (suc (suc (suc (suc (suc (suc (suc kind))))))) bytes high) ∙ e))
+
+pub judged-nothing : (place : ℕ) → judged place [] ≡ Ok None
+unfolding judged
+judged-nothing place = refl
