@@ -7,7 +7,7 @@ use Rattle.std.specs.Borrow.{Bor}
 use Rattle.std.proofs.lemmas.List.Concat.{flat_map-cons}
 use Rattle.std.proofs.lemmas.Grind.{flat_map-append}
 use Rattle.apx_wire.specs.declared.message.Message.{Message}
-use Rattle.std.specs.Prelude.{IsTrue}
+use Rattle.std.specs.Prelude.{IsTrue, IfErr, OnOk}
 use Rattle.apx_wire.specs.declared.message.Message.TheVariants.{Payload, Begin, End, Checkpoint, Reset, EndOfStream}
 use Rattle.apx_wire.specs.declared.fault.WireFault.{WireFault}
 use Rattle.apx_wire.specs.declared.fault.WireFault.TheVariants.{BadType, BadKey, BadNumber, BadOrder, Memory}
@@ -36,9 +36,16 @@ latest_behind ms n n-is None latest chosen item is =
 latest_behind ms n n-is (Some back) latest chosen item is =
     ap option_copied is ∙ sym (latest_after-last_is (option_copied latest) ms back.now n n-is item.3.0 item.1)
 
-pub latest_after-some : (latest : Option Message) (ms : List Message) → 0 < length ms → latest_after latest ms ≡ latest_after None ms
-latest_after-some latest [] some = absurd (omega arith)
-latest_after-some latest (m ∷ ms) some = refl
+-- the last of some messages, or else the one right before
+latest_after-is_some : (m : Message) (ms : List Message) → (k : Message) × (latest_after (Some m) ms ≡ Some k)
+latest_after-is_some m [] = (m, refl)
+latest_after-is_some m (k ∷ ms) = latest_after-is_some k ms
+
+pub latest_or : (latest : Option Message) (ms : List Message) → option_or (latest_after None ms) latest ≡ latest_after latest ms
+latest_or latest [] = refl
+latest_or latest (m ∷ ms) =
+    let last = latest_after-is_some m ms in
+    ap (λ (o : Option Message). option_or o latest) last.1 ∙ sym last.1
 
 pub with_messages-latest : (before : Before) (ms : List Message) → (with_messages before ms).latest ≡ latest_after before.latest ms
 with_messages-latest before [] = refl
@@ -131,3 +138,70 @@ Decodes-new d held rest before fed = record {
   unfinished = rw rest (λ place. judged-nothing place);
   fed = fed;
 }
+
+-- the whole messages at the front of the rest were read
+pub Settles-made : (old new : Decoding) (messages : List Message) (len : ℕ) (before : Before) → before ≡ old.before → new.held ≡ old.held ++ messages → ReadsTo before old.rest messages (drop len old.rest) → new.rest ≡ drop len old.rest → new.before.latest ≡ option_or (latest_after None messages) old.before.latest → new.before.window ≡ (with_messages before messages).window → new.fed ≡ old.fed → Settles old new
+Settles-made old new messages len before before-is held reads rest latest window fed =
+    let reads' : ReadsTo old.before old.rest messages new.rest = rw rest (subst (λ (b : Before). ReadsTo b old.rest messages (drop len old.rest)) before-is reads) in
+    let window' : new.before.window ≡ (with_messages old.before messages).window = window ∙ ap (λ (b : Before). (with_messages b messages).window) before-is in
+    let after = before_is old.before messages new.before.latest new.before.window (latest ∙ latest_or old.before.latest messages) window' in
+    record { messages = messages; held = held; reads = reads'; before = sym after; fed = fed }
+
+-- a decoder that has got one more piece, and hasn't read it
+pub record Gets (old mid : Decoding) (piece : List ℕ) : Type 0 where
+  pub held : mid.held ≡ old.held
+  pub rest : mid.rest ≡ old.rest ++ piece
+  pub before : mid.before ≡ old.before
+  pub fed : mid.fed ≡ old.fed + length piece
+
+module _ (old mid : Decoding) (piece stream : List ℕ) (handed : List Message) (gets : Gets old mid piece) (d : Decodes stream handed old) where
+  -- the stream with the piece, behind the messages so far
+  longer : (messages : List Message) (tail : List ℕ) → mid.rest ≡ spellings messages ++ tail → stream ++ piece ≡ spellings ((handed ++ old.held) ++ messages) ++ tail
+  longer messages tail whole =
+      let s = spellings (handed ++ old.held) in
+      ap (λ (x : List ℕ). x ++ piece) d.bytes ∙ append_assoc s old.rest piece ∙ ap (λ (x : List ℕ). s ++ x) (sym gets.rest ∙ whole) ∙ sym (append_assoc s (spellings messages) tail) ∙ ap (λ (x : List ℕ). x ++ tail) (sym (spellings-append (handed ++ old.held) messages))
+
+  in_order_still : (messages : List Message) → AreInOrder mid.before messages → AreInOrder beginning ((handed ++ old.held) ++ messages)
+  in_order_still messages order =
+      AreInOrder-append beginning (handed ++ old.held) messages d.in_order (subst (λ (b : Before). AreInOrder b messages) (gets.before ∙ d.before) order)
+
+  before_still : (messages : List Message) → with_messages mid.before messages ≡ with_messages beginning ((handed ++ old.held) ++ messages)
+  before_still messages =
+      ap (λ (b : Before). with_messages b messages) (gets.before ∙ d.before) ∙ sym (with_messages-append beginning (handed ++ old.held) messages)
+
+  place_still : (messages : List Message) → mid.fed - length mid.rest + length (spellings messages) ≡ 0 + length (spellings ((handed ++ old.held) ++ messages))
+  place_still messages =
+      let long : length (spellings ((handed ++ old.held) ++ messages)) ≡ length (spellings (handed ++ old.held)) + length (spellings messages) = ap length (spellings-append (handed ++ old.held) messages) ∙ length-append (spellings (handed ++ old.held)) (spellings messages) in
+      let whole : length stream ≡ length (spellings (handed ++ old.held)) + length old.rest = ap length d.bytes ∙ length-append (spellings (handed ++ old.held)) old.rest in
+      let rest : length mid.rest ≡ length old.rest + length piece = ap length gets.rest ∙ length-append old.rest piece in
+      omega (arith, long, whole, rest, gets.fed, d.fed)
+
+  pub Rejects-more : (fault : WireFault) → RejectsRest mid fault → Rejects (stream ++ piece) fault
+  Rejects-more fault r = record {
+    messages = (handed ++ old.held) ++ r.messages;
+    tail = r.tail;
+    whole = longer r.messages r.tail r.whole;
+    in_order = in_order_still r.messages r.in_order;
+    wrong = subst (λ (p : ℕ). IsWrong (with_messages beginning ((handed ++ old.held) ++ r.messages)) p r.tail fault) (place_still r.messages) (subst (λ (b : Before). IsWrong b (mid.fed - length mid.rest + length (spellings r.messages)) r.tail fault) (before_still r.messages) r.wrong);
+  }
+
+  pub Decodes-more : (new : Decoding) → Settles mid new → Decodes (stream ++ piece) handed new
+  Decodes-more new s =
+      let all : (handed ++ old.held) ++ s.messages ≡ handed ++ new.held = append_assoc handed old.held s.messages ∙ ap (λ (x : List Message). handed ++ x) (ap (λ (x : List Message). x ++ s.messages) (sym gets.held) ∙ sym s.held) in
+      record {
+        bytes = longer s.messages new.rest s.reads.whole ∙ ap (λ (x : List Message). spellings x ++ new.rest) all;
+        in_order = subst (AreInOrder beginning) all (in_order_still s.messages s.reads.in_order);
+        before = s.before ∙ before_still s.messages ∙ ap (with_messages beginning) all;
+        unfinished = s.reads.unfinished;
+        fed = s.fed ∙ gets.fed ∙ ap (λ (n : ℕ). n + length piece) d.fed ∙ sym (length-append stream piece);
+      }
+
+-- the same of what a call returned
+pub feed_refused : (r : Result (Unit {0}) WireFault) (old mid : Decoding) (piece : List ℕ) → Gets old mid piece → IfErr r (λ fault. UnlessMemory fault (RejectsRest mid fault)) → IfErr r (λ fault. UnlessMemory fault ((stream : List ℕ) (handed : List Message) → Decodes stream handed old → Rejects (stream ++ piece) fault))
+feed_refused (Ok x) old mid piece gets refused = tt
+feed_refused (Err fault) old mid piece gets refused =
+    UnlessMemory-map fault (RejectsRest mid fault) ((stream : List ℕ) (handed : List Message) → Decodes stream handed old → Rejects (stream ++ piece) fault) (λ r stream handed d. Rejects-more old mid piece stream handed gets d fault r) refused
+
+pub feed_taken : (r : Result (Unit {0}) WireFault) (old mid new : Decoding) (piece : List ℕ) → Gets old mid piece → OnOk r (Settles mid new) → OnOk r ((stream : List ℕ) (handed : List Message) → Decodes stream handed old → Decodes (stream ++ piece) handed new)
+feed_taken (Ok x) old mid new piece gets settles = λ stream handed d. Decodes-more old mid piece stream handed gets d new settles
+feed_taken (Err fault) old mid new piece gets settles = tt

@@ -98,9 +98,7 @@ impl Decoder {
         let mut read = whole_messages(alloc, self.latest.as_ref(), self.window, place, &self.rest)?;
         let latest = last_copied(&read.messages)?;
         self.held.append(&mut read.messages)?;
-        if latest.is_some() {
-            self.latest = latest;
-        }
+        self.latest = latest.or(self.latest.take());
         self.window = read.window;
         drop_front(&mut self.rest, read.len);
         Ok(())
