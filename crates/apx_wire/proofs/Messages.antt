@@ -18,13 +18,13 @@ use Rattle.std.specs.Prelude.{IfOk, IfSome}
 use Rattle.apx_wire.proofs.Fields.{IsWide, wide16, wide32, wide64, AreBytes-drop, AreBytes-take, front-back, front-below, field_in-again, field_in-some}
 use Rattle.apx_wire.proofs.Payloads.{payload_judged-whole}
 
-abbrev Judgement : Type 0
+abbrev pub Judgement : Type 0
 Judgement = Result (Option (Message × ℕ)) WireFault
 
-abbrev read : Message → ℕ → Judgement
+abbrev pub read : Message → ℕ → Judgement
 read m n = Ok (Some (m, n))
 
-read_is : (m k : Message) (n l : ℕ) → read m n ≡ read k l → (m ≡ k) × (n ≡ l)
+pub read_is : (m k : Message) (n l : ℕ) → read m n ≡ read k l → (m ≡ k) × (n ≡ l)
 read_is m k n l e =
     let p : Path (Message × ℕ) (m, n) (k, l) = cc in
     (ap (λ (x : Message × ℕ). x.0) p, ap (λ (x : Message × ℕ). x.1) p)

@@ -63,8 +63,14 @@ impl Decoder {
     /// Takes the next piece of the stream whole, or refuses it and changes nothing.
     pub fn feed(&mut self, piece: &[u8]) -> Result<(), WireFault>
         requires { self.old.fed + length piece.now < 2 ^ 64 }
+
+        // A decoder that has taken a stream has taken it with the piece, or there is something
+        // wrong with the stream and the piece: the first thing that is wrong, and no other.
         ensures taken { OnOk result ((stream : List ℕ) (handed : List Message) → Decodes stream handed self.old → Decodes (stream ++ piece.now) handed self.new) }
         ensures refused { IfErr result (λ fault. UnlessMemory fault ((stream : List ℕ) (handed : List Message) → Decodes stream handed self.old → Rejects (stream ++ piece.now) fault)) }
+        ensures only { (stream : List ℕ) (handed : List Message) (fault : WireFault) → Decodes stream handed self.old → Rejects (stream ++ piece.now) fault → (result ≡ Err fault) ⊎ (result ≡ Err WireFault.Memory) }
+
+        ensures fed { OnOk result (self.new.fed ≡ self.old.fed + length piece.now) }
         ensures err { OnErr result (self.new ≡ self.old) }
     {
         let kept = self.rest.len();

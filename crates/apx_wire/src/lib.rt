@@ -3,12 +3,14 @@
 
 pub use decoder::Decoder;
 pub use fault::WireFault;
+pub use laws::{no_spelling_begins_another, streams_have_one_reading};
 pub use message::Message;
 pub use reading::first_message;
 pub use writing::write;
 
 mod decoder;
 mod fault;
+mod laws;
 mod message;
 mod order;
 mod reading;
