@@ -1,0 +1,5 @@
+pub mod Cause
+pub mod Folder
+pub mod MemoryFolder
+pub mod MemoryOut
+pub mod Out

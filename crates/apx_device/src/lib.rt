@@ -1,0 +1,13 @@
+//! The outside of the engine as traits, each with what its calls mean and a count of its faults, and devices in memory.
+#![tactic(auto)]
+
+mod failing;
+mod folder;
+mod memory_folder;
+mod memory_out;
+mod out;
+
+pub use folder::{Folder, ReadRefusal};
+pub use memory_folder::{FailingFolder, MemoryFolder};
+pub use memory_out::MemoryOut;
+pub use out::{Failed, Out};
