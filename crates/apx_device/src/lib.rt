@@ -3,11 +3,15 @@
 
 mod failing;
 mod folder;
+mod keeper;
 mod memory_folder;
+mod memory_keeper;
 mod memory_out;
 mod out;
 
 pub use folder::{Folder, ReadRefusal};
+pub use keeper::{KeepRefusal, Keeper};
 pub use memory_folder::{FailingFolder, MemoryFolder};
+pub use memory_keeper::{FailingKeeper, MemoryKeeper};
 pub use memory_out::MemoryOut;
 pub use out::{Failed, Out};
