@@ -4,4 +4,6 @@ pub mod Keeper
 pub mod MemoryKeeper
 pub mod MemoryFolder
 pub mod MemoryOut
+pub mod MemorySpool
 pub mod Out
+pub mod Spool

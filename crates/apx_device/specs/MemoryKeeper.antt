@@ -1,5 +1,5 @@
 -- The windows of a keeper in memory.
-use Rattle.std.specs.Prelude.{ℕ, List, map, length}
+use Rattle.std.specs.Prelude.{List, map}
 use Rattle.apx_tuple.specs.declared.tuple.Tuple.{Tuple}
 use Rattle.apx_device.specs.declared.memory_keeper.MemoryKeeper.{MemoryKeeper}
 use Rattle.apx_device.specs.declared.memory_keeper.FailingKeeper.{FailingKeeper}
