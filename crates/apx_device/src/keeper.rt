@@ -1,6 +1,6 @@
 // The sink's store, called the keeper: the rows of each window, each window in one transaction.
 ghost use Rattle.std.specs.Prelude.{◌≡◌, ◌<◌, ◌≤◌, ◌+◌, ◌-◌, ◌++◌, ◌∷◌, [], Bool, ℕ, List, Some, length, slice_get, IsTrue, IfOk};
-ghost use Rattle.apx_tuple.specs.Size.{size};
+ghost use Rattle.apx_tuple.specs.Size.{size_by};
 ghost use Rattle.apx_tuple.specs.Tuple.{tuple_key};
 ghost use Rattle.apx_tuple.specs.declared.tuple.Tuple.{Tuple};
 ghost use Rattle.apx_device.specs.Cause.{HasCause};
@@ -54,7 +54,7 @@ pub trait Keeper {
     fn commit(&mut self, window: u32, rows: &[Tuple]) -> Result<(), KeepRefusal>
         requires sound { IsTrue (sound self.old) }
         requires next { window ≡ last self.old + 1 }
-        requires small { size tuple_key rows.now < 4294967232 }
+        requires small { size_by tuple_key rows.now < 4294967232 }
         ensures stored { IsTrue tells → LeftBy result (stored self.old) (stored self.old ++ rows.now ∷ []) (stored self.new) }
         ensures last { LeftBy result (last self.old) (last self.old + 1) (last self.new) }
         ensures sound { StaysSound result (sound self.new) }

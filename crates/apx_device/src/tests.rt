@@ -1,6 +1,6 @@
 // Each call of the devices in memory, with ample memory, and each failing call by its number.
 ghost use Rattle.std.specs.Prelude.{◌<◌, IfOk};
-ghost use Rattle.apx_tuple.specs.Size.{size};
+ghost use Rattle.apx_tuple.specs.Size.{size_by};
 ghost use Rattle.apx_tuple.specs.Tuple.{tuple_key};
 
 use super::*;
@@ -18,7 +18,7 @@ fn folder(alloc: Global) -> Result<MemoryFolder, AllocError> {
 
 // Two tuples of one window.
 fn two_rows(alloc: Global) -> Result<Vec<Tuple>, Fail>
-    ensures { IfOk result (λ rows. size tuple_key rows.items < 100) }
+    ensures { IfOk result (λ rows. size_by tuple_key rows.items < 100) }
 {
     let mut rows = Vec::new(alloc);
     rows.push(Tuple {
