@@ -1,11 +1,11 @@
 -- Reading the items of a list one after the other, as a loop does.
-use Rattle.std.proofs.Common.{◌≡◌, ℕ, suc, ◌+◌, ◌≤◌, ◌<◌, List, [], ◌∷◌, ◌++◌, length, get_or, drop, map, Result, Ok, Err, refl, sym, ap, ◌∙◌, append_assoc, arith}
+use Rattle.std.proofs.Common.{◌≡◌, ℕ, ◌+◌, ◌≤◌, ◌<◌, List, [], ◌∷◌, ◌++◌, length, get_or, drop, Ok, Err, refl, sym, ap, ◌∙◌, append_assoc}
 use Rattle.std.proofs.lemmas.List.{append-nil, drop_all}
 use Rattle.std.proofs.Math.Seq.{drop-cons}
 use Rattle.std.proofs.Math.Numerals.{add-one}
 use Rattle.serde_json.specs.declared.value.Value.{Value}
-use Rattle.serde_json.specs.Data.{Data, Items, item}
-use Rattle.serde_json.specs.View.{view, items_of, items_view}
+use Rattle.serde_json.specs.Data.{Data, item}
+use Rattle.serde_json.specs.View.{view, items_view}
 use Rattle.apx_json.specs.declared.refusal.JsonRefusal.{JsonRefusal}
 use Rattle.apx_json.specs.declared.refusal.JsonRefusal.TheVariants.{Syntax, Shape, Memory}
 use Rattle.apx_json.specs.Shape.{Shaped, ◌>>=◌, Fails, each_at}

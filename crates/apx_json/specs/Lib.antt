@@ -1,4 +1,5 @@
 pub mod Texts
-pub mod Numbers
+pub mod Decimal
+pub mod Integers
 pub mod Shape
 pub mod Reading

@@ -12,7 +12,7 @@ use Rattle.apx_json.specs.declared.refusal.JsonRefusal.TheVariants.{Syntax, Shap
 use Rattle.apx_json.specs.declared.place.Place.{Place}
 use Rattle.apx_json.specs.declared.place.Place.TheVariants.{Application, Operator, Attributes, Stream, Source, Sink}
 use Rattle.apx_json.specs.Texts as texts
-use Rattle.apx_json.specs.Numbers.{integer_of}
+use Rattle.apx_json.specs.Decimal.{integer_of}
 
 -- what is there, or the place that lacks it
 abbrev pub Shaped : Type 0 → Type 0

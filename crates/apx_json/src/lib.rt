@@ -17,3 +17,6 @@ pub use number::integer;
 pub use read::read_app;
 pub use refusal::JsonRefusal;
 pub use text::{AppText, OperatorText, PortText, Property, PropertyValue, StreamText};
+
+#[cfg(test)]
+mod tests;

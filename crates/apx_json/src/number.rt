@@ -1,7 +1,7 @@
 //! Integers of 64 bits that a text writes in decimal.
 
 ghost use Rattle.std.specs.Prelude.{◌≡◌, ◌==◌, slice_index};
-ghost use Rattle.apx_json.specs.Numbers.{integer_of};
+ghost use Rattle.apx_json.specs.Decimal.{integer_of};
 
 /// What an optional `-` and one or more digits write; `None` for any other
 /// text and outside the range of `i64`.

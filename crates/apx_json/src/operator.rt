@@ -25,10 +25,7 @@ fn property_value(alloc: Global, value: &Value) -> Result<PropertyValue, AllocEr
     })
 }
 
-fn properties_in(
-    alloc: Global,
-    members: &Map<String, Value>,
-) -> Result<Vec<Property>, AllocError>
+fn properties_in(alloc: Global, members: &Map<String, Value>) -> Result<Vec<Property>, AllocError>
     ensures { IfOk result (λ list. list.items ≡ properties_of (members_view members.now.entries)) }
 {
     let mut properties = Vec::new(alloc);
@@ -43,11 +40,7 @@ fn properties_in(
 
 /// The properties of operator `i`, none where they are absent.
 #[tactic(auto, unfolding(crate::specs::Shape::properties_at))]
-fn properties(
-    alloc: Global,
-    i: usize,
-    found: Option<&Value>,
-) -> Result<Vec<Property>, JsonRefusal>
+fn properties(alloc: Global, i: usize, found: Option<&Value>) -> Result<Vec<Property>, JsonRefusal>
     ensures { Gives (λ list. list.items) result
         (properties_at i (option_map (λ v. view v.now) found.entry)) }
 {
@@ -64,11 +57,7 @@ fn properties(
 
 /// `PARTITIONS` and `APPLICATION_WINDOW_COUNT` of operator `i`.
 #[tactic(auto, unfolding(crate::specs::Shape::attributes_at))]
-fn attributes(
-    alloc: Global,
-    i: usize,
-    found: Option<&Value>,
-) -> Result<(i64, i64), JsonRefusal>
+fn attributes(alloc: Global, i: usize, found: Option<&Value>) -> Result<(i64, i64), JsonRefusal>
     ensures { Gives (λ pair. pair) result (attributes_at i (option_map (λ v. view v.now) found.entry)) }
 {
     if found.is_none() {
@@ -102,10 +91,7 @@ fn operator(alloc: Global, i: usize, value: &Value) -> Result<OperatorText, Json
 }
 
 /// The operators of a list.
-pub(crate) fn operators(
-    alloc: Global,
-    list: &Vec<Value>,
-) -> Result<Vec<OperatorText>, JsonRefusal>
+pub(crate) fn operators(alloc: Global, list: &Vec<Value>) -> Result<Vec<OperatorText>, JsonRefusal>
     ensures { Gives (λ found. found.items) result
         (each_at operator_at 0 (items_view list.now.items)) }
 {

@@ -19,7 +19,10 @@ fn application(alloc: Global, value: &Value) -> Result<AppText, JsonRefusal>
     ensures { Gives (λ app. app) result (application_of (view value.now)) }
 {
     let members = object(alloc, Place::Application, Some(value))?;
-    let operators = operators(alloc, list(alloc, Place::Application, members, "operators")?)?;
+    let operators = operators(
+        alloc,
+        list(alloc, Place::Application, members, "operators")?,
+    )?;
     let streams = streams(alloc, list(alloc, Place::Application, members, "streams")?)?;
     Ok(AppText { operators, streams })
 }

@@ -1,6 +1,7 @@
 //! An application as its text has it, with nothing of the graph tested.
 
 use crate::name::Name;
+use crate::number::integer;
 use std::marker::Model;
 
 /// The value of an operator's property.
@@ -12,6 +13,23 @@ pub enum PropertyValue {
     Text(Name),
     /// Any other value.
     Other,
+}
+
+impl PropertyValue {
+    ghost use Rattle.std.specs.Prelude.{◌≡◌};
+    ghost use Rattle.apx_json.specs.Integers.{integer_in};
+
+    /// The integer that it is: a number, or a text of an optional `-` and
+    /// digits in the range of `i64`.
+    pub fn integer(&self) -> Option<i64>
+        ensures { result ≡ integer_in self.now }
+    {
+        match self {
+            PropertyValue::Number(number) => Some(*number),
+            PropertyValue::Text(text) => integer(text.text()),
+            PropertyValue::Other => None,
+        }
+    }
 }
 
 /// A property of an operator, by its name.

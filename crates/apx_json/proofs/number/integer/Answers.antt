@@ -1,6 +1,6 @@
-use Rattle.std.proofs.Common.{◌≡◌, ◌≢◌, get_or, sym, ◌∙◌, eqb, true, false, eqb-true}
+use Rattle.std.proofs.Common.{◌≡◌, get_or, sym, ◌∙◌, eqb, true, false, eqb-true}
 use Rattle.std.proofs.lemmas.Bool.{eqb-false}
-use Rattle.apx_json.proofs.Integers.{integer_is, plus_is_none}
+use Rattle.apx_json.proofs.Parsing.{integer_is, plus_is_none}
 use Rattle.apx_json.proofs.number.integer.Goals as goal
 
 pub returns-then-has_plus : goal.returns-then-has_plus

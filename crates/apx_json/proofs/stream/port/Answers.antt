@@ -1,6 +1,5 @@
-use Rattle.std.proofs.Common.{rules, ◌≡◌, option_map, List, [], ◌∷◌, ◌++◌, Some, None, Ok, Err, refl}
-use Rattle.serde_json.specs.View.{view, items_view}
-use Rattle.apx_json.specs.Shape.{Gives, port_at, sink_at, stream_at, each_at, ◌>>=◌, object_at, text_at}
+use Rattle.std.proofs.Common.{rules, refl}
+use Rattle.apx_json.specs.Shape.{port_at}
 use Rattle.apx_json.proofs.stream.port.Goals as goal
 
 pub returns : goal.returns
