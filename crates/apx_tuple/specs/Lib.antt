@@ -1,0 +1,4 @@
+pub mod Kind
+pub mod Size
+pub mod State
+pub mod Tuple

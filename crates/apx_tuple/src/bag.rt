@@ -1,0 +1,95 @@
+//! Bags: what a window holds, in ascending order.
+ghost use Rattle.std.specs.Prelude.{◌≡◌, ◌<◌, [], IfOk, OnOk};
+ghost use Rattle.std.specs.List.{flat_map};
+ghost use Rattle.apx_tuple.specs.Size.{size_by, IsLarge};
+ghost use Rattle.apx_tuple.specs.Tuple.{bag_of, tuple_key, IsBag};
+
+use crate::refusal::Short;
+use crate::size::is_large;
+use crate::tuple::Tuple;
+use std::alloc::{AllocError, Global};
+use std::marker::Model;
+
+/// Tuples in ascending order, repeats kept; its size stays below 4294967232.
+#[derive(Debug, Drop)]
+pub struct Bag {
+    tuples: Vec<Tuple>,
+}
+
+impl Model for Bag {
+    ghost use Rattle.std.specs.Prelude.{List};
+    ghost use Rattle.apx_tuple.specs.declared.tuple.Tuple.{Tuple};
+
+    ghost Value = { List Tuple };
+
+    ghost use Rattle.apx_tuple.specs.Tuple.{IsBag};
+
+    ghost view = { λ b. b.tuples.items };
+
+    ghost invariant = { λ b. IsBag b.tuples.items };
+}
+
+impl Bag {
+    /// The bag without tuples.
+    pub fn new(alloc: Global) -> Bag
+        ensures { result ≡ [] }
+    {
+        Bag {
+            tuples: Vec::new(alloc),
+        }
+    }
+
+    /// The bag of these tuples.
+    ///
+    /// `Large` comes only where they are too large for a bag. The tuples are dropped on a refusal.
+    pub fn of(mut tuples: Vec<Tuple>) -> Result<Bag, Short>
+        ensures ok { IfOk result (λ bag. bag ≡ bag_of tuples.items) }
+        ensures small { OnOk result (size_by tuple_key tuples.items < 4294967232) }
+        ensures large { result ≡ Err Short.Large → IsLarge tuple_key tuples.items }
+    {
+        if is_large(&tuples) {
+            return Err(Short::Large);
+        }
+        tuples.sort()?;
+        Ok(Bag { tuples })
+    }
+
+    /// The bag of the tuples of all the parts.
+    ///
+    /// `Large` comes only where these are too large for a bag. The parts are dropped on a refusal.
+    pub fn merge(alloc: Global, parts: Vec<Bag>) -> Result<Bag, Short>
+        ensures ok { IfOk result (λ bag. bag ≡ bag_of (flat_map (λ part. part) parts.items)) }
+        ensures small { OnOk result (size_by tuple_key (flat_map (λ part. part) parts.items) < 4294967232) }
+        ensures large { result ≡ Err Short.Large → IsLarge tuple_key (flat_map (λ part. part) parts.items) }
+    {
+        Bag::of(all_tuples(alloc, parts)?)
+    }
+
+    /// The tuples, in ascending order.
+    pub fn tuples(&self) -> &[Tuple]
+        ensures tuples { result.now ≡ self.now }
+        ensures bag { IsBag self.now }
+    {
+        &self.tuples
+    }
+
+    /// The tuples, in ascending order, taken out of the bag.
+    pub fn into_tuples(self) -> Vec<Tuple>
+        ensures tuples { result.items ≡ self }
+        ensures bag { IsBag self }
+    {
+        self.tuples
+    }
+}
+
+/// The tuples of all the parts, one part after the other.
+fn all_tuples(alloc: Global, parts: Vec<Bag>) -> Result<Vec<Tuple>, AllocError>
+    ensures { IfOk result (λ all. all.items ≡ flat_map (λ part. part) parts.items) }
+{
+    let mut all = Vec::new(alloc);
+    for part in parts {
+        let mut tuples = part.tuples;
+        all.append(&mut tuples)?;
+    }
+    Ok(all)
+}

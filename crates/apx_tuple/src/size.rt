@@ -1,0 +1,28 @@
+//! How large bags and states may be.
+ghost use Rattle.std.specs.Prelude.{◌<◌};
+ghost use Rattle.std.specs.Bool.{OnFalse, OnTrue};
+ghost use Rattle.apx_tuple.specs.Size.{size_by, IsLarge};
+ghost use Rattle.apx_tuple.specs.Tuple.{tuple_key};
+
+use crate::tuple::Tuple;
+
+/// The size from which on a bag or a state is too large: so a bag's messages fit fewer than 2^32 blocks.
+pub(crate) const LARGE: u64 = 4294967232;
+
+/// What a member counts beside its key's length: the two bytes of that length and the eight of its value.
+pub(crate) const BESIDE_KEY: u64 = 10;
+
+/// Whether the tuples are too large for a bag.
+pub(crate) fn is_large(tuples: &[Tuple]) -> bool
+    ensures large { OnTrue result (IsLarge tuple_key tuples.now) }
+    ensures small { OnFalse result (size_by tuple_key tuples.now < 4294967232) }
+{
+    let mut size = 0u64;
+    for tuple in tuples {
+        size += tuple.key.bytes().len() as u64 + BESIDE_KEY;
+        if size >= LARGE {
+            return true;
+        }
+    }
+    false
+}

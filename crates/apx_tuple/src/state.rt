@@ -1,0 +1,159 @@
+//! States: what an operator keeps from window to window.
+ghost use Rattle.std.specs.Prelude.{◌≡◌, ℤ, ◌<◌, ◌==◌, [], length, IfOk, OnOk, OnErr};
+ghost use Rattle.std.specs.Bool.{OnFalse, OnTrue};
+ghost use Rattle.std.specs.Iterator.{YieldsFirstBy, item_count};
+ghost use Rattle.apx_tuple.specs.Size.{size_by, IsLarge};
+ghost use Rattle.apx_tuple.specs.State.{pair_key, value_at, with_entry, without_entry, IsState};
+
+use crate::key::Key;
+use crate::refusal::Short;
+use crate::size::{BESIDE_KEY, LARGE};
+use std::alloc::{AllocError, Global};
+use std::collections::{BTreeMap, btree_map};
+use std::marker::Model;
+
+/// A number kept for each of some keys; its size stays below 4294967232.
+#[derive(Debug, Drop)]
+pub struct State {
+    entries: BTreeMap<Key, i64>,
+    /// Over the keys, their length and 10.
+    size: u64,
+}
+
+impl Model for State {
+    ghost use Rattle.std.specs.Prelude.{◌≡◌, List};
+    ghost use Rattle.apx_tuple.specs.State.{Pair, pair_key, IsState};
+    ghost use Rattle.apx_tuple.specs.Size.{size_by};
+
+    ghost Value = { List Pair };
+
+    ghost view = { λ s. s.entries.entries };
+
+    ghost invariant = { λ s. (s.size ≡ size_by pair_key s.entries.entries) × IsState s.entries.entries };
+}
+
+impl State {
+    /// The state in which nothing is kept.
+    pub fn new(alloc: Global) -> State
+        ensures { result ≡ [] }
+    {
+        State {
+            entries: BTreeMap::new(alloc),
+            size: 0,
+        }
+    }
+
+    /// How many keys there are.
+    pub fn len(&self) -> usize
+        ensures len { result ≡ length self.now }
+        ensures state { IsState self.now }
+    {
+        self.entries.len()
+    }
+
+    /// Whether nothing is kept.
+    pub fn is_empty(&self) -> bool
+        ensures { result ≡ (length self.now == 0) }
+    {
+        self.entries.len() == 0
+    }
+
+    /// What is kept for the key; None exactly where nothing is.
+    pub fn get(&self, key: &Key) -> Option<i64>
+        ensures { result ≡ value_at self.now key.now }
+    {
+        self.entries.get(key).copied()
+    }
+
+    /// Keeps the value for the key, in place of what was kept for it.
+    ///
+    /// `Large` comes only where the state with it would be too large.
+    pub fn set(&mut self, key: Key, value: i64) -> Result<(), Short>
+        ensures ok { OnOk result (self.new ≡ with_entry self.old key value) }
+        ensures small { OnOk result (size_by pair_key (with_entry self.old key value) < 4294967232) }
+        ensures large { result ≡ Err Short.Large → IsLarge pair_key (with_entry self.old key value) }
+        ensures err { OnErr result (self.new ≡ self.old) }
+    {
+        if self.outgrows(&key) {
+            return Err(Short::Large);
+        }
+        let more = key.bytes().len() as u64 + BESIDE_KEY;
+        if self.entries.insert(key, value)?.is_none() {
+            self.size += more;
+        }
+        Ok(())
+    }
+
+    /// Whether the state with an entry for the key would be too large.
+    fn outgrows(&self, key: &Key) -> bool
+        ensures large { OnTrue result ((value : ℤ) → IsLarge pair_key (with_entry self.now key.now value)) }
+        ensures small { OnFalse result ((value : ℤ) → size_by pair_key (with_entry self.now key.now value) < 4294967232) }
+    {
+        let more = key.bytes().len() as u64 + BESIDE_KEY;
+        if self.size + more < LARGE {
+            return false;
+        }
+        match self.entries.get(key) {
+            Some(_) => false,
+            None => true,
+        }
+    }
+
+    /// Keeps nothing for the key any more.
+    pub fn remove(&mut self, key: &Key)
+        ensures { self.new ≡ without_entry self.old key.now }
+    {
+        let less = key.bytes().len() as u64 + BESIDE_KEY;
+        if self.entries.remove(key).is_some() {
+            self.size -= less;
+        }
+    }
+
+    /// A state with the same pairs.
+    pub fn copy(&self) -> Result<State, AllocError>
+        ensures { IfOk result (λ state. state ≡ self.now) }
+    {
+        Ok(State {
+            entries: self.entries.clone()?,
+            size: self.size,
+        })
+    }
+
+    /// The pairs, in the keys' order.
+    pub fn pairs(&self) -> Pairs<'_>
+        ensures pairs { result ≡ self.now }
+        ensures state { IsState self.now }
+    {
+        Pairs {
+            pairs: self.entries.iter(),
+        }
+    }
+}
+
+/// The pairs of a state that are left, in the keys' order.
+#[derive(Drop)]
+pub struct Pairs<'a> {
+    pairs: btree_map::Iter<'a, Key, i64>,
+}
+
+impl<'a> Model for Pairs<'a> {
+    ghost use Rattle.std.specs.Prelude.{List};
+    ghost use Rattle.apx_tuple.specs.State.{Pair};
+
+    ghost Value = { List Pair };
+
+    ghost view = { λ p. p.pairs };
+}
+
+impl<'a> Iterator for Pairs<'a> {
+    type Item = (&'a Key, i64);
+
+    ghost next_gives = { YieldsFirstBy (λ p. (p.0.now, p.1)) (λ s. s) };
+
+    ghost remaining = { item_count (λ s. s) };
+
+    fn next(&mut self) -> Option<(&'a Key, i64)> {
+        let (key, value) = self.pairs.next()?;
+        Some((key, *value))
+    }
+}
