@@ -6,7 +6,7 @@ pub use fault::WireFault;
 pub use laws::{no_spelling_begins_another, streams_have_one_reading};
 pub use message::Message;
 pub use reading::first_message;
-pub use writing::write;
+pub use writing::{write, write_payload};
 
 mod decoder;
 mod fault;
