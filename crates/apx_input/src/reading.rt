@@ -1,0 +1,2 @@
+//! Windows of lines.
+pub fn windows() {}
