@@ -12,4 +12,7 @@ mod line;
 mod pair;
 mod reading;
 mod refusal;
+#[cfg(test)]
+mod tests;
+mod tuple;
 mod window;

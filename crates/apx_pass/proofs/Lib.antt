@@ -1,2 +1,4 @@
+pub mod Grouping
 pub mod Pieces
+pub mod Refusing
 pub mod Values

@@ -1,4 +1,4 @@
-use Rattle.std.proofs.Common.{◌≡◌, ◌<◌, ◌+◌, ◌*◌, ◌^◌, ◌-◌, arith, sym, ◌∙◌, ap, Some, length, get_or, eqb-true}
+use Rattle.std.proofs.Common.{◌≡◌, ◌<◌, ◌^◌, ◌-◌, arith, sym, ◌∙◌, ap, Some, length, get_or, eqb-true}
 use Rattle.std.proofs.lemmas.Bool.{eqb-false}
 use Rattle.std.specs.Str.Parse.{digits_value}
 use Rattle.apx_pass.proofs.Values.{no_number_empty, no_number_digits, no_number_large, not_all_digits, no_more_digits, is_number, value_after_more, digit_is}
