@@ -5,6 +5,7 @@ use Rattle.apx_tuple.specs.declared.kind.InputKind.{InputKind}
 use Rattle.apx_tuple.specs.declared.tuple.Tuple.{Tuple}
 use Rattle.apx_tuple.specs.Size.{size_by}
 use Rattle.apx_tuple.specs.Tuple.{bag_of, tuple_key}
+use Rattle.apx_tuple.proofs.Sizes.{size_by-bag_of}
 use Rattle.apx_pass.specs.Groups.{input_of, window_bag, first_refused, IsInput}
 use Rattle.apx_pass.specs.Lines.{lines}
 use Rattle.apx_pass.specs.Pairs.{tuple_of}
@@ -19,9 +20,9 @@ module _ (kind : InputKind) (per_window : ℕ) (bytes text : List ℕ) (window :
       let short : List ℕ → Type 0 = λ line. length line ≤ 1024 in
       All-same short (lines text) _ text_is (All-drop short ((window - 1) * per_window) (lines bytes) (lines_short kind per_window 1 (lines bytes) input.accepted))
 
-  -- so the tuples are not large
-  pub small_tuples : (tuples : List Tuple) → tuples ≡ filter_map (tuple_of kind) (take per_window (lines text)) → size_by tuple_key tuples < 4294967232
-  small_tuples tuples is = omega (arith, ap (size_by tuple_key) is, size_of_short kind per_window (lines text) short_lines, input.high)
+  -- so the bag of the tuples is not large
+  pub small_tuples : (tuples : List Tuple) → tuples ≡ filter_map (tuple_of kind) (take per_window (lines text)) → size_by tuple_key (bag_of tuples) < 4294967232
+  small_tuples tuples is = omega (arith, size_by-bag_of tuples, ap (size_by tuple_key) is, size_of_short kind per_window (lines text) short_lines, input.high)
 
   -- and they make the window's bag
   pub bag_is : (tuples : List Tuple) → 0 < window → tuples ≡ filter_map (tuple_of kind) (take per_window (lines text)) → bag_of tuples ≡ window_bag (input_of kind per_window bytes) window

@@ -37,7 +37,8 @@ pub fn windows(
     // No line of it is refused.
     ensures accepted { OnOk result (first_refused (input_of kind per_window bytes.now) ≡ None) }
     // Where a line is refused, the answer is the refusal of the first one, unless memory runs out.
-    ensures exact { (refused : Refused) → first_refused (input_of kind per_window bytes.now) ≡ Some refused → (result ≡ Err (refusal_of refused)) ⊎ (result ≡ Err LineRefusal.Memory) }
+    ensures exact { (refused : Refused) → first_refused (input_of kind per_window bytes.now) ≡ Some refused →
+        (result ≡ Err (refusal_of refused)) ⊎ (result ≡ Err LineRefusal.Memory) }
     // And a refusal tells the first refused line and its cause.
     ensures refused { IfErr result (λ refusal. Tells refusal (first_refused (input_of kind per_window bytes.now))) }
 {
@@ -88,7 +89,10 @@ fn after_window(
     requires { first + per_window ≤ 20000 * per_window + 1 }
     ensures rest { IfOk result (λ rest. IsEnd text.now rest.now) }
     ensures lines { IfOk result (λ rest. lines rest.now ≡ drop per_window (lines text.now)) }
-    ensures same { IfOk result (λ rest. first_refused_from kind per_window (first + per_window) (lines rest.now) ≡ first_refused_from kind per_window first (lines text.now)) }
+    // None of these lines is refused.
+    ensures same { IfOk result (λ rest.
+        first_refused_from kind per_window (first + per_window) (lines rest.now)
+        ≡ first_refused_from kind per_window first (lines text.now)) }
     ensures refused { IfErr result (λ refusal. Tells refusal (first_refused_from kind per_window first (lines text.now))) }
 {
     let mut rest = text;
@@ -106,7 +110,10 @@ fn after_window(
 
 /// Refuses a line for its length or for what it has to be.
 fn judge(kind: InputKind, number: u64, line: &[u8]) -> Result<(), LineRefusal>
-    ensures { (per_window : ℕ) → number ≢ 20000 * per_window + 1 → MatchResult result (λ _. refused_at kind per_window number line.now ≡ None) (λ refusal. Tells refusal (refused_at kind per_window number line.now)) }
+    ensures { (per_window : ℕ) → number ≢ 20000 * per_window + 1 →
+        MatchResult result
+        (λ _. refused_at kind per_window number line.now ≡ None)
+        (λ refusal. Tells refusal (refused_at kind per_window number line.now)) }
 {
     if line.len() > MAX_LINE_LEN {
         return Err(LineRefusal::TooLong { line: number });

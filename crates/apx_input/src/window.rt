@@ -16,6 +16,13 @@ use std::marker::Model;
 ///
 /// It holds the file's bytes once and eight bytes a window beside them: a window's bag is made when it is
 /// asked for.
+///
+/// ```
+/// let windows = windows(alloc, InputKind::Pairs, 1000, bytes)?;
+/// for window in 0..windows.count() {
+///     let bag = windows.bag(window + 1)?;
+/// }
+/// ```
 #[derive(Drop)]
 pub struct Windows {
     pub(crate) kind: InputKind,
@@ -101,7 +108,7 @@ fn tuples_of(
 
 /// The bag of tuples that are not too large for one.
 fn bag_of(tuples: Vec<Tuple>) -> Result<Bag, AllocError>
-    requires { size_by tuple_key tuples.items < 4294967232 }
+    requires { size_by tuple_key (bag_of tuples.items) < 4294967232 }
     ensures { IfOk result (λ bag. bag ≡ bag_of tuples.items) }
 {
     match Bag::of(tuples) {
