@@ -1,13 +1,9 @@
-// A library with one function.
+//! What an operator makes of a window: the state from then on, and the rows.
+//!
+//! [`step`] serves all kinds of operators. The keys that came are walked in ascending order, and a kind
+//! adds its rule for one key; what `top` makes of a window has a function of its own.
 #![tactic(auto)]
 
-ghost use Rattle.std.specs.Prelude.{◌≡◌};
-ghost use Rattle.apx_step.specs.Echo.{echo_of};
-
-// The `ensures` clause is the contract: what `echo` returns is `echo_of` of its argument, a definition
-// in `specs/Echo.antt`, which a caller's clause can cite too.
-pub fn echo(x: usize) -> usize
-    ensures { result ≡ echo_of x }
-{
-    x
-}
+mod rules;
+mod walk;
+mod words;
