@@ -43,7 +43,7 @@ module _ {X : Type 0} (cmp : X → X → Ordering) where
   sorted-times x (y ∷ ys) = with_member-times x y (sorted cmp ys) ∙ ap (λ n. cond (is_eq (cmp x y)) 1 0 + n) (sorted-times x ys)
 
 module _ {X : Type 0} {cmp : X → X → Ordering} (o : IsExact cmp) where
-  turned : (x y : X) → is_gt (cmp x y) ≡ true → is_gt (cmp y x) ≡ false
+  pub turned : (x y : X) → is_gt (cmp x y) ≡ true → is_gt (cmp y x) ≡ false
   turned x y h = by (cmp x y) (cmp y x) h (o.total.antisymm x y)
     where
       by : (r s : Ordering) → is_gt r ≡ true → r ≡ ordering_reverse s → is_gt s ≡ false

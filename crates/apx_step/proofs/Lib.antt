@@ -1,2 +1,4 @@
 pub mod Fronts
 pub mod Splits
+pub mod Groups
+pub mod Walks
