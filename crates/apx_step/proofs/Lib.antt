@@ -2,3 +2,5 @@ pub mod Fronts
 pub mod Splits
 pub mod Groups
 pub mod Walks
+pub mod Laws
+pub mod Closing

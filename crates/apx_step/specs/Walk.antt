@@ -1,10 +1,10 @@
 -- A walk over the keys that came in a window, from the least on.
-use Rattle.std.specs.Prelude.{ℕ, List, [], ◌∷◌, ◌++◌, ℤ, pos, map, cond, Option, Some, None, unwrap_or}
+use Rattle.std.specs.Prelude.{ℕ, ◌%◌, ◌==◌, Bool, true, false, List, [], ◌∷◌, ◌++◌, ℤ, pos, map, cond, Option, Some, None, unwrap_or}
 use Rattle.std.specs.Ordering.{is_eq, is_gt}
 use Rattle.std.specs.List.{flat_map}
 use Rattle.apx_order.specs.Sorted.{each_once}
 use Rattle.apx_tuple.specs.declared.kind.Kind.{Kind}
-use Rattle.apx_tuple.specs.declared.kind.Kind.TheVariants.{Keep, Scale, Words, Prefix, Tumble, Match}
+use Rattle.apx_tuple.specs.declared.kind.Kind.TheVariants.{Keep, Scale, Words, Prefix, Count, Sum, Peak, First, Tumble, Match, Enrich}
 use Rattle.apx_tuple.specs.declared.tuple.Tuple.{Tuple}
 use Rattle.apx_tuple.specs.State.{Pair, value_at, with_entry}
 use Rattle.apx_tuple.specs.Tuple.{key_order, tuple_key}
@@ -71,3 +71,26 @@ group_of key (t ∷ tuples) = cond (is_eq (key_order key t.key)) (t ∷ group_of
 abbrev pub past_group : List ℕ → List Tuple → List Tuple
 past_group key [] = []
 past_group key (t ∷ tuples) = cond (is_eq (key_order key t.key)) (past_group key tuples) (t ∷ tuples)
+
+-- the kinds that keep an entry for a key; the others keep nothing
+abbrev pub keeps : Kind → Bool
+keeps Count = true
+keeps Sum = true
+keeps Peak = true
+keeps First = true
+keeps (Tumble every) = true
+keeps Enrich = true
+keeps kind = false
+
+-- what the walk begins with
+abbrev pub start_of : Kind → List Pair → List Pair
+start_of kind pairs = cond (keeps kind) pairs []
+
+-- the windows at which an operator tells all it keeps, and forgets it
+abbrev pub closes : Kind → ℕ → Bool
+closes (Tumble every) window = window % every == 0
+closes kind window = false
+
+-- a pair as a tuple
+abbrev pub pair_tuple : Pair → Tuple
+pair_tuple p = record { key = p.0; value = p.1 }
