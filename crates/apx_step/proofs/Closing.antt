@@ -1,5 +1,5 @@
 -- What a walk makes of a window is what the definition of a step says.
-use Rattle.std.proofs.Common.{◌≡◌, ℕ, ℤ, ◌+◌, ◌≤◌, ◌<◌, zero, suc, Bool, true, false, cond, List, [], ◌∷◌, ◌++◌, length, map, refl, sym, ap, subst, ◌∙◌, arith, Option, Some, None}
+use Rattle.std.proofs.Common.{◌≡◌, ℕ, ℤ, ◌+◌, ◌≤◌, ◌<◌, zero, suc, Bool, true, false, cond, List, [], ◌∷◌, ◌++◌, length, map, refl, sym, ap, subst, ◌∙◌, arith, pos, unwrap_or, ◌⊎◌, inl, inr, Option, Some, None}
 use Rattle.std.specs.declared.cmp.Ordering.{Ordering}
 use Rattle.std.specs.Ordering.{is_eq, is_gt}
 use Rattle.std.specs.Option.{is_some}
@@ -16,7 +16,7 @@ use Rattle.apx_tuple.specs.Size.{size_by, IsLarge}
 use Rattle.apx_tuple.specs.State.{Pair, pair_key, value_at}
 use Rattle.apx_tuple.specs.Tuple.{key_order, tuple_key, tuple_order, bag_of}
 use Rattle.apx_tuple.proofs.Orders.{key_order-exact}
-use Rattle.apx_rules.specs.Rule.{Outcome, rule}
+use Rattle.apx_rules.specs.Rule.{Outcome, rule, tuples_of}
 use Rattle.apx_rules.specs.Step.{Stepped, step, keyed_step, step_keys, outcome_at, entries_at, values_of}
 use Rattle.apx_rules.proofs.Pairs.{same_key, value_at-with_entry, value_at-elsewhere, value_at-among, value_at-none, entries_at-ascends, same-pairs}
 use Rattle.apx_step.specs.Walk.{values, keys_came, put, put_all, walked, told_of, open_rule, open_outcome, keeps, start_of, closes, pair_tuple}
@@ -146,3 +146,95 @@ pub closing-rows : (kind : Kind) (window : ℕ) (state : List Pair) (left right 
 closing-rows kind window state left right open_window =
     ap bag_of (told_of-start kind state left right ∙ told_of-all kind state left right
     ∙ (λ i. flat_map (λ key. (rule-open kind window key (value_at state key) (values_of key left) (values_of key right) open_window i).told) (step_keys state left right)))
+
+-- ---- at a window that ends the sums
+
+entries_at-told : (entry : List ℕ → Option ℤ) (ks : List (List ℕ)) → map pair_tuple (entries_at entry ks) ≡ flat_map (λ key. tuples_of key (cond (is_some (entry key)) (unwrap_or (entry key) (pos 0) ∷ []) [])) ks
+unfolding entries_at
+entries_at-told entry [] = refl
+entries_at-told entry (k ∷ ks) = by (entry k) refl (entries_at-told entry ks)
+  where
+    by : (o : Option ℤ) → entry k ≡ o → map pair_tuple (entries_at entry ks) ≡ flat_map (λ key. tuples_of key (cond (is_some (entry key)) (unwrap_or (entry key) (pos 0) ∷ []) [])) ks →
+        map pair_tuple (entries_at entry (k ∷ ks)) ≡ flat_map (λ key. tuples_of key (cond (is_some (entry key)) (unwrap_or (entry key) (pos 0) ∷ []) [])) (k ∷ ks)
+    by None e rest = rw e rest
+    by (Some v) e rest = rw e (ap (λ l. record { key = k; value = v } ∷ l) rest)
+
+-- everything that is kept is told, and nothing is kept
+pub closing-end : (kind : Kind) (window : ℕ) (state : List Pair) (left right : List Tuple) → IsStrictlySortedBy key_order (keys_of state) → closes kind window ≡ true →
+    (bag_of (map pair_tuple (walked kind (start_of kind state) left right)) ≡ (keyed_step kind window state left right).rows) × ((keyed_step kind window state left right).state ≡ [])
+unfolding open_rule rule
+closing-end (Tumble every) window state left right a h =
+    (ap bag_of (ap (map pair_tuple) (walked-kept (Tumble every) state left right a refl) ∙ entries_at-told (λ key. (open_outcome (Tumble every) state left right key).entry) (step_keys state left right)) ∙ rw h refl, rw h (entries_at-none (λ key. None) (step_keys state left right) (λ k. refl)))
+closing-end kind window state left right a h = cc
+
+-- ---- sizes
+
+with_member-size : (t : Tuple) (ts : List Tuple) → size_by tuple_key (with_member tuple_order t ts) ≡ size_by tuple_key (t ∷ ts)
+unfolding with_member
+with_member-size t [] = refl
+with_member-size t (u ∷ ts) = by (is_gt (tuple_order t u)) (with_member-size t ts)
+  where
+    by : (b : Bool) → size_by tuple_key (with_member tuple_order t ts) ≡ size_by tuple_key (t ∷ ts) → size_by tuple_key (cond b (u ∷ with_member tuple_order t ts) (t ∷ u ∷ ts)) ≡ size_by tuple_key (t ∷ u ∷ ts)
+    by true h = omega (arith, h)
+    by false h = refl
+
+-- sorting keeps the size
+pub bag_of-size : (ts : List Tuple) → size_by tuple_key (bag_of ts) ≡ size_by tuple_key ts
+unfolding sorted
+bag_of-size [] = refl
+bag_of-size (t ∷ ts) = omega (arith, with_member-size t (bag_of ts), bag_of-size ts)
+
+pub pair_tuple-size : (pairs : List Pair) → size_by tuple_key (map pair_tuple pairs) ≡ size_by pair_key pairs
+pair_tuple-size [] = refl
+pair_tuple-size (p ∷ pairs) = omega (arith, pair_tuple-size pairs)
+
+-- tuples that are too large make a bag that is
+pub bag_of-large : (ts rows : List Tuple) → bag_of ts ≡ rows → IsLarge tuple_key ts → IsLarge tuple_key rows
+bag_of-large ts rows e large = subst (IsLarge tuple_key) e (omega (arith, bag_of-size ts))
+
+pub start-ascends : (kind : Kind) (state : List Pair) → IsStrictlySortedBy key_order (keys_of state) → IsStrictlySortedBy key_order (keys_of (start_of kind state))
+unfolding IsStrictlySortedBy
+start-ascends kind state a = by (keeps kind)
+  where
+    by : (b : Bool) → IsStrictlySortedBy key_order (keys_of (cond b state []))
+    by true = a
+    by false = tt
+
+-- every kind but `top` steps key by key
+pub step-keyed : (kind : Kind) (window : ℕ) (state : List Pair) (left right : List Tuple) → ((k : ℕ) → kind ≡ Top k → ⊥) → step kind window state left right ≡ keyed_step kind window state left right
+unfolding step
+step-keyed (Top k) window state left right n = absurd (n k refl)
+step-keyed kind window state left right n = refl
+
+-- ---- the step as the code goes
+
+module _ (kind : Kind) (window : ℕ) (state start kept : List Pair) (left right told : List Tuple) (ascends : IsStrictlySortedBy key_order (keys_of state)) (begins : start ≡ start_of kind state) where
+  whole : walked kind start left right ≡ walked kind (start_of kind state) left right
+  whole = ap (λ s. walked kind s left right) begins
+
+  pub open-ok : (rows : List Tuple) → closes kind window ≡ false → kept ≡ walked kind start left right → told ≡ told_of kind start left right → rows ≡ bag_of told →
+      (kept ≡ (keyed_step kind window state left right).state) × (rows ≡ (keyed_step kind window state left right).rows)
+  open-ok rows h k t r = (k ∙ whole ∙ closing-state kind window state left right ascends h, r ∙ ap bag_of (t ∙ ap (λ s. told_of kind s left right) begins) ∙ closing-rows kind window state left right h)
+
+  pub open-large : closes kind window ≡ false → told ≡ told_of kind start left right → IsLarge tuple_key told → IsLarge tuple_key (keyed_step kind window state left right).rows
+  open-large h t large = bag_of-large told (keyed_step kind window state left right).rows (ap bag_of (t ∙ ap (λ s. told_of kind s left right) begins) ∙ closing-rows kind window state left right h) large
+
+  end-rows : closes kind window ≡ true → kept ≡ walked kind start left right → told ≡ map pair_tuple kept → bag_of told ≡ (keyed_step kind window state left right).rows
+  end-rows h k t = ap bag_of (t ∙ ap (map pair_tuple) (k ∙ whole)) ∙ (closing-end kind window state left right ascends h).0
+
+  pub end-ok : (new : List Pair) (rows : List Tuple) → closes kind window ≡ true → kept ≡ walked kind start left right → told ≡ map pair_tuple kept → new ≡ [] → rows ≡ bag_of told →
+      (new ≡ (keyed_step kind window state left right).state) × (rows ≡ (keyed_step kind window state left right).rows)
+  end-ok new rows h k t n r = (n ∙ sym (closing-end kind window state left right ascends h).1, r ∙ end-rows h k t)
+
+  pub end-large : closes kind window ≡ true → kept ≡ walked kind start left right → told ≡ map pair_tuple kept → IsLarge tuple_key told → IsLarge tuple_key (keyed_step kind window state left right).rows
+  end-large h k t large = bag_of-large told (keyed_step kind window state left right).rows (end-rows h k t) large
+
+-- where what is kept is too large, the new state is, or the rows that it is told by are
+pub walk-large : (kind : Kind) (window : ℕ) (state start : List Pair) (left right : List Tuple) → IsStrictlySortedBy key_order (keys_of state) → start ≡ start_of kind state → IsLarge pair_key (walked kind start left right) →
+    IsLarge pair_key (keyed_step kind window state left right).state ⊎ IsLarge tuple_key (keyed_step kind window state left right).rows
+walk-large kind window state start left right a begins large = by (closes kind window) refl
+  where
+    by : (b : Bool) → closes kind window ≡ b → IsLarge pair_key (keyed_step kind window state left right).state ⊎ IsLarge tuple_key (keyed_step kind window state left right).rows
+    by false h = inl (subst (IsLarge pair_key) (ap (λ s. walked kind s left right) begins ∙ closing-state kind window state left right a h) large)
+    by true h = inr (bag_of-large (map pair_tuple (walked kind (start_of kind state) left right)) (keyed_step kind window state left right).rows (closing-end kind window state left right a h).0
+        (omega (arith, pair_tuple-size (walked kind (start_of kind state) left right), ap (λ s. size_by pair_key (walked kind s left right)) begins, large)))

@@ -4,6 +4,9 @@
 //! adds its rule for one key; what `top` makes of a window has a function of its own.
 #![tactic(auto)]
 
+pub use steps::step;
+
 mod rules;
+mod steps;
 mod walk;
 mod words;

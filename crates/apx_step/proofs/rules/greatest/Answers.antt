@@ -2,7 +2,6 @@ use Rattle.std.proofs.Common.{◌≡◌, Some, arith, rules, to_z, of_z, w64, ap
 use mir.Val.{SFits}
 use Rattle.std.proofs.lemmas.Int.{to_z-of_z}
 use Rattle.apx_step.proofs.Fronts.{greatest-more}
-use Rattle.apx_step.proofs.Closing.{closing-state}
 use Rattle.apx_step.proofs.rules.greatest.Goals as goal
 
 pub loop-tuple-preserved : goal.loop-tuple-preserved
