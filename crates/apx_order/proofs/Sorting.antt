@@ -122,7 +122,7 @@ module _ {X : Type 0} {cmp : X → X → Ordering} (o : IsExact cmp) where
       by Equal e more = let same : x ≡ y = o.tight x y e in let rest : xs ≡ ys = more (tails same) in cc
 
   -- the order of std's sorts, member by member
-  step-down : (x y : X) → is_lt (cmp y x) ≡ false → is_gt (cmp x y) ≡ false
+  pub step-down : (x y : X) → is_lt (cmp y x) ≡ false → is_gt (cmp x y) ≡ false
   step-down x y h = by (cmp x y) (cmp y x) h (o.total.antisymm x y)
     where
       by : (r s : Ordering) → is_lt s ≡ false → r ≡ ordering_reverse s → is_gt r ≡ false

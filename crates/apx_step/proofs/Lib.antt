@@ -4,3 +4,4 @@ pub mod Groups
 pub mod Walks
 pub mod Laws
 pub mod Closing
+pub mod Ranking

@@ -8,5 +8,6 @@ pub use steps::step;
 
 mod rules;
 mod steps;
+mod top;
 mod walk;
 mod words;

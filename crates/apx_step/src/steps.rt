@@ -7,6 +7,7 @@ ghost use Rattle.apx_rules.specs.Step.{keyed_step, step};
 ghost use Rattle.apx_step.specs.Walk.{keeps, start_of, closes, pair_tuple};
 
 use crate::rules::tell;
+use crate::top::top;
 use crate::walk::walk;
 use apx_tuple::{Bag, Kind, Short, State, Tuple};
 use std::alloc::{AllocError, Global};
@@ -20,7 +21,7 @@ pub fn step(alloc: Global, kind: &Kind, window: u32, state: &State, left: &Bag, 
     ensures large { result ≡ Err Short.Large → IsLarge pair_key (step kind.now window state.now left.now right.now).state ⊎ IsLarge tuple_key (step kind.now window state.now left.now right.now).rows }
 {
     match *kind {
-        Kind::Top { .. } => Err(Short::Memory),
+        Kind::Top { k } => Ok((State::new(alloc), top(alloc, k, left)?)),
         _ => keyed_step(alloc, kind, window, state, left, right),
     }
 }
