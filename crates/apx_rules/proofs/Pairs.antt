@@ -158,3 +158,11 @@ find-value_at q (p ∷ pairs) = ap (cond (is_eq (key_order q p.0)) (Some p.1)) (
 pub same-pairs : (ps qs : List Pair) → IsStrictlySortedBy key_order (keys_of ps) → IsStrictlySortedBy key_order (keys_of qs) → ((q : List ℕ) → value_at ps q ≡ value_at qs q) → ps ≡ qs
 same-pairs ps qs a b h =
     same_entries key_order key_order-exact.total key_order-exact.tight ps qs (sorted_from ps a) (sorted_from qs b) (λ q. find-value_at q ps ∙ h q ∙ sym (find-value_at q qs))
+
+-- an entry that is kept already changes nothing
+pub with_entry-same : (pairs : List Pair) (k : List ℕ) (v : ℤ) → IsStrictlySortedBy key_order (keys_of pairs) → value_at pairs k ≡ Some v → with_entry pairs k v ≡ pairs
+with_entry-same pairs k v a h = same-pairs (with_entry pairs k v) pairs (with_entry-ascends pairs k v a) a (λ q. value_at-with_entry pairs k v q ∙ by q (is_eq (key_order q k)) refl)
+  where
+    by : (q : List ℕ) (b : Bool) → is_eq (key_order q k) ≡ b → cond b (Some v) (value_at pairs q) ≡ value_at pairs q
+    by q true e = sym h ∙ ap (value_at pairs) (sym (same_key q k e))
+    by q false e = refl

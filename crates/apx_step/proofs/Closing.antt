@@ -16,6 +16,7 @@ use Rattle.apx_tuple.specs.Size.{size_by, IsLarge}
 use Rattle.apx_tuple.specs.State.{Pair, pair_key, value_at}
 use Rattle.apx_tuple.specs.Tuple.{key_order, tuple_key, tuple_order, bag_of}
 use Rattle.apx_tuple.proofs.Orders.{key_order-exact}
+use Rattle.apx_tuple.proofs.Sizes.{size_by-bag_of}
 use Rattle.apx_rules.specs.Rule.{Outcome, rule, tuples_of}
 use Rattle.apx_rules.specs.Step.{Stepped, step, keyed_step, step_keys, outcome_at, entries_at, values_of}
 use Rattle.apx_rules.proofs.Pairs.{same_key, value_at-with_entry, value_at-elsewhere, value_at-among, value_at-none, entries_at-ascends, same-pairs}
@@ -169,28 +170,9 @@ closing-end kind window state left right a h = cc
 
 -- ---- sizes
 
-with_member-size : (t : Tuple) (ts : List Tuple) → size_by tuple_key (with_member tuple_order t ts) ≡ size_by tuple_key (t ∷ ts)
-unfolding with_member
-with_member-size t [] = refl
-with_member-size t (u ∷ ts) = by (is_gt (tuple_order t u)) (with_member-size t ts)
-  where
-    by : (b : Bool) → size_by tuple_key (with_member tuple_order t ts) ≡ size_by tuple_key (t ∷ ts) → size_by tuple_key (cond b (u ∷ with_member tuple_order t ts) (t ∷ u ∷ ts)) ≡ size_by tuple_key (t ∷ u ∷ ts)
-    by true h = omega (arith, h)
-    by false h = refl
-
--- sorting keeps the size
-pub bag_of-size : (ts : List Tuple) → size_by tuple_key (bag_of ts) ≡ size_by tuple_key ts
-unfolding sorted
-bag_of-size [] = refl
-bag_of-size (t ∷ ts) = omega (arith, with_member-size t (bag_of ts), bag_of-size ts)
-
 pub pair_tuple-size : (pairs : List Pair) → size_by tuple_key (map pair_tuple pairs) ≡ size_by pair_key pairs
 pair_tuple-size [] = refl
 pair_tuple-size (p ∷ pairs) = omega (arith, pair_tuple-size pairs)
-
--- tuples that are too large make a bag that is
-pub bag_of-large : (ts rows : List Tuple) → bag_of ts ≡ rows → IsLarge tuple_key ts → IsLarge tuple_key rows
-bag_of-large ts rows e large = subst (IsLarge tuple_key) e (omega (arith, bag_of-size ts))
 
 pub start-ascends : (kind : Kind) (state : List Pair) → IsStrictlySortedBy key_order (keys_of state) → IsStrictlySortedBy key_order (keys_of (start_of kind state))
 unfolding IsStrictlySortedBy
@@ -216,8 +198,8 @@ module _ (kind : Kind) (window : ℕ) (state start kept : List Pair) (left right
       (kept ≡ (keyed_step kind window state left right).state) × (rows ≡ (keyed_step kind window state left right).rows)
   open-ok rows h k t r = (k ∙ whole ∙ closing-state kind window state left right ascends h, r ∙ ap bag_of (t ∙ ap (λ s. told_of kind s left right) begins) ∙ closing-rows kind window state left right h)
 
-  pub open-large : closes kind window ≡ false → told ≡ told_of kind start left right → IsLarge tuple_key told → IsLarge tuple_key (keyed_step kind window state left right).rows
-  open-large h t large = bag_of-large told (keyed_step kind window state left right).rows (ap bag_of (t ∙ ap (λ s. told_of kind s left right) begins) ∙ closing-rows kind window state left right h) large
+  pub open-large : closes kind window ≡ false → told ≡ told_of kind start left right → IsLarge tuple_key (bag_of told) → IsLarge tuple_key (keyed_step kind window state left right).rows
+  open-large h t large = subst (IsLarge tuple_key) (ap bag_of (t ∙ ap (λ s. told_of kind s left right) begins) ∙ closing-rows kind window state left right h) large
 
   end-rows : closes kind window ≡ true → kept ≡ walked kind start left right → told ≡ map pair_tuple kept → bag_of told ≡ (keyed_step kind window state left right).rows
   end-rows h k t = ap bag_of (t ∙ ap (map pair_tuple) (k ∙ whole)) ∙ (closing-end kind window state left right ascends h).0
@@ -226,8 +208,8 @@ module _ (kind : Kind) (window : ℕ) (state start kept : List Pair) (left right
       (new ≡ (keyed_step kind window state left right).state) × (rows ≡ (keyed_step kind window state left right).rows)
   end-ok new rows h k t n r = (n ∙ sym (closing-end kind window state left right ascends h).1, r ∙ end-rows h k t)
 
-  pub end-large : closes kind window ≡ true → kept ≡ walked kind start left right → told ≡ map pair_tuple kept → IsLarge tuple_key told → IsLarge tuple_key (keyed_step kind window state left right).rows
-  end-large h k t large = bag_of-large told (keyed_step kind window state left right).rows (end-rows h k t) large
+  pub end-large : closes kind window ≡ true → kept ≡ walked kind start left right → told ≡ map pair_tuple kept → IsLarge tuple_key (bag_of told) → IsLarge tuple_key (keyed_step kind window state left right).rows
+  end-large h k t large = subst (IsLarge tuple_key) (end-rows h k t) large
 
 -- where what is kept is too large, the new state is, or the rows that it is told by are
 pub walk-large : (kind : Kind) (window : ℕ) (state start : List Pair) (left right : List Tuple) → IsStrictlySortedBy key_order (keys_of state) → start ≡ start_of kind state → IsLarge pair_key (walked kind start left right) →
@@ -236,5 +218,5 @@ walk-large kind window state start left right a begins large = by (closes kind w
   where
     by : (b : Bool) → closes kind window ≡ b → IsLarge pair_key (keyed_step kind window state left right).state ⊎ IsLarge tuple_key (keyed_step kind window state left right).rows
     by false h = inl (subst (IsLarge pair_key) (ap (λ s. walked kind s left right) begins ∙ closing-state kind window state left right a h) large)
-    by true h = inr (bag_of-large (map pair_tuple (walked kind (start_of kind state) left right)) (keyed_step kind window state left right).rows (closing-end kind window state left right a h).0
-        (omega (arith, pair_tuple-size (walked kind (start_of kind state) left right), ap (λ s. size_by pair_key (walked kind s left right)) begins, large)))
+    by true h = inr (subst (IsLarge tuple_key) (closing-end kind window state left right a h).0
+        (omega (arith, size_by-bag_of (map pair_tuple (walked kind (start_of kind state) left right)), pair_tuple-size (walked kind (start_of kind state) left right), ap (λ s. size_by pair_key (walked kind s left right)) begins, large)))

@@ -1,9 +1,13 @@
 -- A walk over the keys that came, key by key.
-use Rattle.std.proofs.Common.{◌≡◌, ℕ, ℤ, ◌+◌, ◌≤◌, ◌<◌, Bool, true, false, cond, List, [], ◌∷◌, ◌++◌, length, map, refl, sym, ap, subst, ◌∙◌, arith, append-nil, append_assoc, Option, Some, None}
-use Rattle.std.specs.Ordering.{is_eq}
+use Rattle.std.proofs.Common.{◌≡◌, ℕ, ℤ, ◌+◌, ◌≤◌, ◌<◌, Bool, true, false, cond, List, [], ◌∷◌, ◌++◌, length, map, refl, sym, ap, subst, ◌∙◌, arith, append-nil, append_assoc, int_eq, Option, Some, None}
+use Rattle.std.specs.declared.cmp.Ordering.{Ordering}
+use Rattle.std.specs.declared.cmp.Ordering.TheVariants.{Less, Equal, Greater}
+use Rattle.std.specs.Ordering.{is_eq, int_cmp}
+use Rattle.std.specs.Option.{option_eq}
 use Rattle.std.specs.List.{flat_map}
 use Rattle.std.specs.List.Sorted.{IsStrictlySortedBy}
 use Rattle.std.specs.Map.{keys_of}
+use Rattle.std.proofs.lemmas.Cmp.{int_ranked}
 use Rattle.apx_order.specs.Sorted.{times, each_once, IsAscending}
 use Rattle.apx_order.proofs.Sorting.{times-append}
 use Rattle.apx_tuple.specs.declared.kind.Kind.{Kind}
@@ -14,7 +18,7 @@ use Rattle.apx_tuple.specs.Tuple.{key_order}
 use Rattle.apx_tuple.proofs.Sizes.{size_by-with_entry-le}
 use Rattle.apx_rules.specs.Rule.{Outcome}
 use Rattle.apx_rules.specs.Step.{values_of}
-use Rattle.apx_rules.proofs.Pairs.{same_key, value_at-with_entry, with_entry-ascends}
+use Rattle.apx_rules.proofs.Pairs.{same_key, value_at-with_entry, with_entry-ascends, with_entry-same}
 use Rattle.apx_step.specs.Walk.{values, keys_came, first_key, group_of, past_group, put, put_all, walked, told_of, open_outcome, open_rule}
 use Rattle.apx_step.proofs.Groups.{keys, past-times, past-values, past-ascends, past-none, group-values, IsFirst, first_key-first, keys_came-first}
 
@@ -27,6 +31,26 @@ put-other (Some v) key q pairs n = value_at-with_entry pairs key v q ∙ ap (λ 
 pub put-ascends : (entry : Option ℤ) (key : List ℕ) (pairs : List Pair) → IsStrictlySortedBy key_order (keys_of pairs) → IsStrictlySortedBy key_order (keys_of (put entry key pairs))
 put-ascends None key pairs a = a
 put-ascends (Some v) key pairs a = with_entry-ascends pairs key v a
+
+-- entries that are equal by `==` are one
+pub same-entry : (a b : Option ℤ) → option_eq int_eq a b ≡ true → a ≡ b
+same-entry None None h = refl
+same-entry None (Some y) h = cc
+same-entry (Some x) None h = cc
+same-entry (Some x) (Some y) h = ap Some (key x y h)
+  where
+    tied : (r : Ordering) → is_eq r ≡ true → r ≡ Equal
+    tied Less e = cc
+    tied Equal e = refl
+    tied Greater e = cc
+
+    key : (x y : ℤ) → int_eq x y ≡ true → x ≡ y
+    key x y e = int_ranked x y Equal (sym (tied (int_cmp x y) e))
+
+-- an entry that is kept already
+pub put-same : (old entry : Option ℤ) (key : List ℕ) (pairs : List Pair) → IsStrictlySortedBy key_order (keys_of pairs) → old ≡ value_at pairs key → entry ≡ old → pairs ≡ put entry key pairs
+put-same old None key pairs a o e = refl
+put-same old (Some v) key pairs a o e = sym (with_entry-same pairs key v a (sym o ∙ sym e))
 
 put-grows : (entry : Option ℤ) (key : List ℕ) (pairs : List Pair) → IsStrictlySortedBy key_order (keys_of pairs) → size_by pair_key pairs ≤ size_by pair_key (put entry key pairs)
 put-grows None key pairs a = omega arith

@@ -8,6 +8,8 @@ pub use steps::step;
 
 mod rules;
 mod steps;
+#[cfg(test)]
+mod tests;
 mod top;
 mod walk;
 mod words;

@@ -26,7 +26,13 @@ fn is_within(min: i64, max: i64, value: i64) -> bool
 }
 
 /// Tells the tuples whose value is from `min` to `max`.
-fn tell_kept(min: i64, max: i64, key: &Key, tuples: &[Tuple], told: &mut Vec<Tuple>) -> Result<(), AllocError>
+fn tell_kept(
+    min: i64,
+    max: i64,
+    key: &Key,
+    tuples: &[Tuple],
+    told: &mut Vec<Tuple>,
+) -> Result<(), AllocError>
     ensures { OnOk result (told.new.items ≡ told.old.items ++ (keep_rule min max key.now (values tuples.now)).told) }
 {
     for tuple in tuples {
@@ -38,7 +44,12 @@ fn tell_kept(min: i64, max: i64, key: &Key, tuples: &[Tuple], told: &mut Vec<Tup
 }
 
 /// Tells the tuples with their values multiplied by `factor`.
-fn tell_scaled(factor: i64, key: &Key, tuples: &[Tuple], told: &mut Vec<Tuple>) -> Result<(), AllocError>
+fn tell_scaled(
+    factor: i64,
+    key: &Key,
+    tuples: &[Tuple],
+    told: &mut Vec<Tuple>,
+) -> Result<(), AllocError>
     ensures { OnOk result (told.new.items ≡ told.old.items ++ (scale_rule factor key.now (values tuples.now)).told) }
 {
     for tuple in tuples {
@@ -58,7 +69,12 @@ fn tell_as(key: &Key, tuples: &[Tuple], told: &mut Vec<Tuple>) -> Result<(), All
 }
 
 /// Tells the tuples with `more` added to their values.
-fn tell_raised(more: i64, key: &Key, tuples: &[Tuple], told: &mut Vec<Tuple>) -> Result<(), AllocError>
+fn tell_raised(
+    more: i64,
+    key: &Key,
+    tuples: &[Tuple],
+    told: &mut Vec<Tuple>,
+) -> Result<(), AllocError>
     ensures { OnOk result (told.new.items ≡ told.old.items ++ tuples_of key.now (with_entry_added (Some more) (values tuples.now))) }
 {
     for tuple in tuples {
@@ -102,7 +118,13 @@ pub(crate) fn key_of(alloc: Global, bytes: &[u8]) -> Result<Key, AllocError>
 }
 
 /// Tells the tuples with the key cut to its first `len` bytes.
-fn tell_cut(alloc: Global, len: u16, key: &Key, tuples: &[Tuple], told: &mut Vec<Tuple>) -> Result<(), AllocError>
+fn tell_cut(
+    alloc: Global,
+    len: u16,
+    key: &Key,
+    tuples: &[Tuple],
+    told: &mut Vec<Tuple>,
+) -> Result<(), AllocError>
     ensures { OnOk result (told.new.items ≡ told.old.items ++ (prefix_rule len key.now (values tuples.now)).told) }
 {
     let bytes = key.bytes();
@@ -120,7 +142,12 @@ fn tell_running(key: &Key, value: i64, told: &mut Vec<Tuple>) -> Result<Option<i
 }
 
 /// Counts the tuples.
-fn count(key: &Key, old: Option<i64>, lefts: &[Tuple], told: &mut Vec<Tuple>) -> Result<Option<i64>, AllocError>
+fn count(
+    key: &Key,
+    old: Option<i64>,
+    lefts: &[Tuple],
+    told: &mut Vec<Tuple>,
+) -> Result<Option<i64>, AllocError>
     ensures entry { IfOk result (λ entry. entry ≡ (count_rule key.now old (values lefts.now)).entry) }
     ensures told { OnOk result (told.new.items ≡ told.old.items ++ (count_rule key.now old (values lefts.now)).told) }
 {
@@ -131,7 +158,12 @@ fn count(key: &Key, old: Option<i64>, lefts: &[Tuple], told: &mut Vec<Tuple>) ->
 }
 
 /// Adds up the values.
-fn sum(key: &Key, old: Option<i64>, lefts: &[Tuple], told: &mut Vec<Tuple>) -> Result<Option<i64>, AllocError>
+fn sum(
+    key: &Key,
+    old: Option<i64>,
+    lefts: &[Tuple],
+    told: &mut Vec<Tuple>,
+) -> Result<Option<i64>, AllocError>
     ensures entry { IfOk result (λ entry. entry ≡ (sum_rule key.now old (values lefts.now)).entry) }
     ensures told { OnOk result (told.new.items ≡ told.old.items ++ (sum_rule key.now old (values lefts.now)).told) }
 {
@@ -152,7 +184,12 @@ fn rose(old: Option<i64>, value: i64) -> bool
 }
 
 /// Keeps the greatest value, and tells it where it is the first or rose.
-fn peak(key: &Key, old: Option<i64>, lefts: &[Tuple], told: &mut Vec<Tuple>) -> Result<Option<i64>, AllocError>
+fn peak(
+    key: &Key,
+    old: Option<i64>,
+    lefts: &[Tuple],
+    told: &mut Vec<Tuple>,
+) -> Result<Option<i64>, AllocError>
     ensures entry { IfOk result (λ entry. entry ≡ (peak_rule key.now old (values lefts.now)).entry) }
     ensures told { OnOk result (told.new.items ≡ told.old.items ++ (peak_rule key.now old (values lefts.now)).told) }
 {
@@ -167,7 +204,12 @@ fn peak(key: &Key, old: Option<i64>, lefts: &[Tuple], told: &mut Vec<Tuple>) -> 
 }
 
 /// Tells the least value of a key that came for the first time.
-fn first(key: &Key, old: Option<i64>, lefts: &[Tuple], told: &mut Vec<Tuple>) -> Result<Option<i64>, AllocError>
+fn first(
+    key: &Key,
+    old: Option<i64>,
+    lefts: &[Tuple],
+    told: &mut Vec<Tuple>,
+) -> Result<Option<i64>, AllocError>
     ensures entry { IfOk result (λ entry. entry ≡ (first_rule key.now old (values lefts.now)).entry) }
     ensures told { OnOk result (told.new.items ≡ told.old.items ++ (first_rule key.now old (values lefts.now)).told) }
 {
@@ -192,7 +234,12 @@ fn gathered(old: Option<i64>, lefts: &[Tuple]) -> Option<i64>
 }
 
 /// Passes on the left tuples of a key that came on the right.
-fn tell_matched(key: &Key, lefts: &[Tuple], rights: &[Tuple], told: &mut Vec<Tuple>) -> Result<(), AllocError>
+fn tell_matched(
+    key: &Key,
+    lefts: &[Tuple],
+    rights: &[Tuple],
+    told: &mut Vec<Tuple>,
+) -> Result<(), AllocError>
     ensures { OnOk result (told.new.items ≡ told.old.items ++ (match_rule key.now (values lefts.now) (values rights.now)).told) }
 {
     if rights.is_empty() {
@@ -213,7 +260,13 @@ fn newest(old: Option<i64>, rights: &[Tuple]) -> Option<i64>
 }
 
 /// Adds the newest right value to each left one.
-fn enrich(key: &Key, old: Option<i64>, lefts: &[Tuple], rights: &[Tuple], told: &mut Vec<Tuple>) -> Result<Option<i64>, AllocError>
+fn enrich(
+    key: &Key,
+    old: Option<i64>,
+    lefts: &[Tuple],
+    rights: &[Tuple],
+    told: &mut Vec<Tuple>,
+) -> Result<Option<i64>, AllocError>
     ensures entry { IfOk result (λ entry. entry ≡ (enrich_rule key.now old (values lefts.now) (values rights.now)).entry) }
     ensures told { OnOk result (told.new.items ≡ told.old.items ++ (enrich_rule key.now old (values lefts.now) (values rights.now)).told) }
 {
@@ -226,7 +279,15 @@ fn enrich(key: &Key, old: Option<i64>, lefts: &[Tuple], rights: &[Tuple], told: 
 
 /// What the kind makes of a key at a window that ends no sum: its new entry. The tuples told are added to `told`.
 #[tactic(auto, unfolding(apx_rules::specs::Rule::rule, crate::specs::Walk::open_rule, crate::specs::Walk::told_of_passing))]
-pub(crate) fn apply(alloc: Global, kind: &Kind, key: &Key, old: Option<i64>, lefts: &[Tuple], rights: &[Tuple], told: &mut Vec<Tuple>) -> Result<Option<i64>, AllocError>
+pub(crate) fn apply(
+    alloc: Global,
+    kind: &Kind,
+    key: &Key,
+    old: Option<i64>,
+    lefts: &[Tuple],
+    rights: &[Tuple],
+    told: &mut Vec<Tuple>,
+) -> Result<Option<i64>, AllocError>
     ensures entry { IfOk result (λ entry. entry ≡ (open_rule kind.now key.now old (values lefts.now) (values rights.now)).entry) }
     ensures told { OnOk result (told.new.items ≡ told.old.items ++ (open_rule kind.now key.now old (values lefts.now) (values rights.now)).told) }
 {
@@ -246,7 +307,14 @@ pub(crate) fn apply(alloc: Global, kind: &Kind, key: &Key, old: Option<i64>, lef
 
 /// What a kind that keeps nothing tells of a key.
 #[tactic(auto, unfolding(crate::specs::Walk::told_of_passing))]
-fn pass_on(alloc: Global, kind: &Kind, key: &Key, lefts: &[Tuple], rights: &[Tuple], told: &mut Vec<Tuple>) -> Result<(), AllocError>
+fn pass_on(
+    alloc: Global,
+    kind: &Kind,
+    key: &Key,
+    lefts: &[Tuple],
+    rights: &[Tuple],
+    told: &mut Vec<Tuple>,
+) -> Result<(), AllocError>
     ensures { OnOk result (told.new.items ≡ told.old.items ++ told_of_passing kind.now key.now (values lefts.now) (values rights.now)) }
 {
     match *kind {
@@ -260,7 +328,12 @@ fn pass_on(alloc: Global, kind: &Kind, key: &Key, lefts: &[Tuple], rights: &[Tup
 }
 
 /// Tells each word of the key, with each of its values.
-fn tell_all_words(alloc: Global, key: &Key, tuples: &[Tuple], told: &mut Vec<Tuple>) -> Result<(), AllocError>
+fn tell_all_words(
+    alloc: Global,
+    key: &Key,
+    tuples: &[Tuple],
+    told: &mut Vec<Tuple>,
+) -> Result<(), AllocError>
     ensures { OnOk result (told.new.items ≡ told.old.items ++ (words_rule key.now (values tuples.now)).told) }
 {
     for tuple in tuples {

@@ -16,7 +16,14 @@ use std::alloc::{AllocError, Global};
 /// bags that came on its ports. A kind with one port has an empty bag on the right.
 ///
 /// `Large` comes only where that state or those rows are too large.
-pub fn step(alloc: Global, kind: &Kind, window: u32, state: &State, left: &Bag, right: &Bag) -> Result<(State, Bag), Short>
+pub fn step(
+    alloc: Global,
+    kind: &Kind,
+    window: u32,
+    state: &State,
+    left: &Bag,
+    right: &Bag,
+) -> Result<(State, Bag), Short>
     ensures ok { IfOk result (λ r. (r.0 ≡ (step kind.now window state.now left.now right.now).state) × (r.1 ≡ (step kind.now window state.now left.now right.now).rows)) }
     ensures large { result ≡ Err Short.Large → IsLarge pair_key (step kind.now window state.now left.now right.now).state ⊎ IsLarge tuple_key (step kind.now window state.now left.now right.now).rows }
 {
@@ -27,7 +34,14 @@ pub fn step(alloc: Global, kind: &Kind, window: u32, state: &State, left: &Bag, 
 }
 
 /// The step of a kind that goes key by key.
-fn keyed_step(alloc: Global, kind: &Kind, window: u32, state: &State, left: &Bag, right: &Bag) -> Result<(State, Bag), Short>
+fn keyed_step(
+    alloc: Global,
+    kind: &Kind,
+    window: u32,
+    state: &State,
+    left: &Bag,
+    right: &Bag,
+) -> Result<(State, Bag), Short>
     ensures ok { IfOk result (λ r. (r.0 ≡ (keyed_step kind.now window state.now left.now right.now).state) × (r.1 ≡ (keyed_step kind.now window state.now left.now right.now).rows)) }
     ensures large { result ≡ Err Short.Large → IsLarge pair_key (keyed_step kind.now window state.now left.now right.now).state ⊎ IsLarge tuple_key (keyed_step kind.now window state.now left.now right.now).rows }
 {
@@ -55,7 +69,10 @@ fn start_of(alloc: Global, kind: &Kind, state: &State) -> Result<State, AllocErr
 fn keeps(kind: &Kind) -> bool
     ensures { result ≡ keeps kind.now }
 {
-    matches!(kind, Kind::Count | Kind::Sum | Kind::Peak | Kind::First | Kind::Tumble { .. } | Kind::Enrich)
+    matches!(
+        kind,
+        Kind::Count | Kind::Sum | Kind::Peak | Kind::First | Kind::Tumble { .. } | Kind::Enrich
+    )
 }
 
 /// Whether all that is kept is told at the window, and forgotten.

@@ -5,7 +5,7 @@ ghost use Rattle.std.specs.Option.{option_copied};
 ghost use Rattle.std.specs.Map.{keys_of};
 ghost use Rattle.std.specs.List.Sorted.{IsStrictlySortedBy};
 ghost use Rattle.apx_tuple.specs.Size.{IsLarge};
-ghost use Rattle.apx_tuple.specs.State.{pair_key};
+ghost use Rattle.apx_tuple.specs.State.{pair_key, value_at};
 ghost use Rattle.apx_tuple.specs.Tuple.{key_order};
 ghost use Rattle.apx_step.specs.Walk.{first_key, group_of, past_group, put, walked, told_of};
 
@@ -58,11 +58,21 @@ fn split_group<'a>(key: &Key, tuples: &'a [Tuple]) -> (&'a [Tuple], &'a [Tuple])
     tuples.split_at(len)
 }
 
-/// Keeps the key's new entry, where it has one.
-fn keep_entry(state: &mut State, key: &Key, entry: Option<i64>) -> Result<(), Short>
+/// Keeps the key's new entry, where it has one that isn't its old one.
+fn keep_entry(
+    state: &mut State,
+    key: &Key,
+    old: Option<i64>,
+    entry: Option<i64>,
+) -> Result<(), Short>
+    requires ascends { IsStrictlySortedBy key_order (keys_of state.old) }
+    requires kept { old ≡ value_at state.old key.now }
     ensures ok { OnOk result (state.new ≡ put entry key.now state.old) }
     ensures large { result ≡ Err Short.Large → IsLarge pair_key (put entry key.now state.old) }
 {
+    if entry == old {
+        return Ok(());
+    }
     match entry {
         Some(value) => state.set(key.copy()?, value),
         None => Ok(()),
@@ -72,7 +82,13 @@ fn keep_entry(state: &mut State, key: &Key, entry: Option<i64>) -> Result<(), Sh
 /// Walks over the keys that came, from the least on: what is kept then, and what was told.
 ///
 /// `Large` comes only where what is kept then is too large for a state.
-pub(crate) fn walk(alloc: Global, kind: &Kind, start: State, left: &Bag, right: &Bag) -> Result<(State, Vec<Tuple>), Short>
+pub(crate) fn walk(
+    alloc: Global,
+    kind: &Kind,
+    start: State,
+    left: &Bag,
+    right: &Bag,
+) -> Result<(State, Vec<Tuple>), Short>
     requires { IsStrictlySortedBy key_order (keys_of start) }
     ensures state { IfOk result (λ r. r.0 ≡ walked kind.now start left.now right.now) }
     ensures told { IfOk result (λ r. r.1.items ≡ told_of kind.now start left.now right.now) }
@@ -87,7 +103,7 @@ pub(crate) fn walk(alloc: Global, kind: &Kind, start: State, left: &Bag, right: 
         let (right_group, right_rest) = split_group(key, rights);
         let old = state.get(key);
         let entry = apply(alloc, kind, key, old, left_group, right_group, &mut told)?;
-        keep_entry(&mut state, key, entry)?;
+        keep_entry(&mut state, key, old, entry)?;
         lefts = left_rest;
         rights = right_rest;
     }

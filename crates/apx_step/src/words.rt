@@ -28,7 +28,12 @@ fn split_word(bytes: &[u8]) -> (&[u8], &[u8])
 }
 
 /// Tells the word with the value, unless it is empty.
-fn tell_word(alloc: Global, word: &[u8], value: i64, told: &mut Vec<Tuple>) -> Result<(), AllocError>
+fn tell_word(
+    alloc: Global,
+    word: &[u8],
+    value: i64,
+    told: &mut Vec<Tuple>,
+) -> Result<(), AllocError>
     requires { length word.now ≤ 1024 }
     ensures { OnOk result (told.new.items ≡ told.old.items ++ with_value value (unless_empty word.now)) }
 {
@@ -39,7 +44,12 @@ fn tell_word(alloc: Global, word: &[u8], value: i64, told: &mut Vec<Tuple>) -> R
 }
 
 /// Tells each word of the key with the value.
-pub(crate) fn tell_words(alloc: Global, key: &Key, value: i64, told: &mut Vec<Tuple>) -> Result<(), AllocError>
+pub(crate) fn tell_words(
+    alloc: Global,
+    key: &Key,
+    value: i64,
+    told: &mut Vec<Tuple>,
+) -> Result<(), AllocError>
     ensures { OnOk result (told.new.items ≡ told.old.items ++ with_value value (words_of key.now)) }
 {
     let mut rest = key.bytes();

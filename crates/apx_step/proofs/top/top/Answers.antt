@@ -1,5 +1,6 @@
 use Rattle.std.proofs.Common.{◌≡◌, IfOk, subst, ◌∙◌}
-use Rattle.apx_step.proofs.Closing.{bag_of-large}
+use Rattle.apx_tuple.specs.Size.{IsLarge}
+use Rattle.apx_tuple.specs.Tuple.{tuple_key}
 use Rattle.apx_step.proofs.Ranking.{top-first}
 use Rattle.apx_step.proofs.top.top.Goals as goal
 
@@ -11,4 +12,4 @@ returns-clause-ok c =
 pub returns-clause-large : goal.returns-clause-large
 returns-clause-large c = λ h.
     let first = top-first c.args.k _ _ _ _ c.in_ok-first.ensures (c.deref.ensures.value ∙ c.truncate.ensures.items) c.in_ok-copied.ensures in
-    bag_of-large _ _ first (c.of.ensures.large h)
+    subst (IsLarge tuple_key) first (c.of.ensures.large h)
