@@ -1,0 +1,6 @@
+//! Valid graphs: an application's operators, each with what it does and whom
+//! it reads, or the first rule that the application breaks.
+#![tactic(auto)]
+
+mod class;
+mod role;
