@@ -1,2 +1,4 @@
 pub mod Class
 pub mod Role
+pub mod Checks
+pub mod Names

@@ -4,3 +4,5 @@
 
 mod class;
 mod role;
+mod names;
+mod refusal;
