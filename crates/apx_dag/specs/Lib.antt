@@ -2,3 +2,4 @@ pub mod Class
 pub mod Role
 pub mod Checks
 pub mod Names
+pub mod Ports

@@ -3,6 +3,8 @@
 #![tactic(auto)]
 
 mod class;
-mod role;
+mod link;
 mod names;
+mod port;
 mod refusal;
+mod role;
