@@ -3,3 +3,4 @@ pub mod Role
 pub mod Checks
 pub mod Names
 pub mod Ports
+pub mod Rules

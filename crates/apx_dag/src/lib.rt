@@ -8,3 +8,4 @@ mod names;
 mod port;
 mod refusal;
 mod role;
+mod rules;
