@@ -4,3 +4,5 @@ pub mod Checks
 pub mod Names
 pub mod Ports
 pub mod Rules
+pub mod Order
+pub mod Marks

@@ -5,6 +5,7 @@
 mod class;
 mod link;
 mod names;
+mod order;
 mod port;
 mod refusal;
 mod role;
