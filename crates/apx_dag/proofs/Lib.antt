@@ -1,1 +1,4 @@
 pub mod Repeats
+pub mod Marking
+pub mod Walk
+pub mod Placing

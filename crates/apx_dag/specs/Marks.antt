@@ -42,3 +42,20 @@ pub record IsFirstLoop (links : List Link) (i : ℕ) : Type 0 where
   pub here : i < length links
   pub loops : Reaches links i i
   pub first : (j : ℕ) → j < i → ¬ Reaches links j j
+
+-- ---- the same marks for operators that are placed
+
+-- an operator that isn't placed, with each of its sources placed
+pub record IsReadyMark (links : List Link) (placed : List Bool) (i : ℕ) : Type 0 where
+  pub open' : mark_at placed i ≡ false
+  pub fed : AreMarked placed (link_at links i)
+
+-- the earliest of these
+pub record IsNextMark (links : List Link) (placed : List Bool) (i : ℕ) : Type 0 where
+  pub here : i < length links
+  pub ready : IsReadyMark links placed i
+  pub earliest : (j : ℕ) → j < i → ¬ IsReadyMark links placed j
+
+-- each operator that isn't placed has a source that isn't
+abbrev pub IsStuck : List Link → List Bool → Type 0
+IsStuck links placed = (i : ℕ) → i < length links → mark_at placed i ≡ false → (a : ℕ) × IsUnmarked placed (link_at links i) a

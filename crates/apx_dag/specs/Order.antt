@@ -22,6 +22,10 @@ pub data Reaches (links : List Link) : ℕ → ℕ → Type 0 where
   at_once : {a b : ℕ} → Feeds links a b → Reaches links a b
   through : {a b c : ℕ} → Feeds links a b → Reaches links b c → Reaches links a c
 
+-- no operator is reached from itself
+abbrev pub IsAcyclic : List Link → Type 0
+IsAcyclic links = (i : ℕ) → i < length links → ¬ Reaches links i i
+
 -- an operator that isn't placed, with each of its sources placed
 pub record IsReady (links : List Link) (placed : List ℕ) (i : ℕ) : Type 0 where
   pub here : i < length links

@@ -1,0 +1,2 @@
+-- Placing one operator after the other.
+use Rattle.std.proofs.Common.{◌≡◌, ℕ}
