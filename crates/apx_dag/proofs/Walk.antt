@@ -42,35 +42,37 @@ two_equal (suc n) g below =
 module _ (links : List Link) (placed : List Bool) (within : IsWithin links) (stuck : IsStuck links placed) where
   record Left (i : ℕ) : Type 0 where
     pub here : i < length links
-    pub open' : mark_at placed i ≡ false
+    pub unmarked : mark_at placed i ≡ false
 
   record Stand : Type 0 where
-    pub at' : ℕ
-    pub left : Left at'
+    pub number : ℕ
+    pub left : Left number
 
   back : Stand → Stand
   back s =
-      let r = stuck s.at' s.left.here s.left.open' in
-      record { at' = r.0; left = record { here = within r.0 s.at' r.1.0; open' = r.1.1 } }
+      let r = stuck s.number s.left.here s.left.unmarked in
+      record { number = r.0; left = record { here = within r.0 s.number r.1.0; unmarked = r.1.1 } }
 
-  back_feeds : (s : Stand) → Feeds links (back s).at' s.at'
-  back_feeds s = (stuck s.at' s.left.here s.left.open').1.0
+  back_feeds : (s : Stand) → Feeds links (back s).number s.number
+  unfolding back
+  back_feeds s = (stuck s.number s.left.here s.left.unmarked).1.0
 
   walk : Stand → ℕ → Stand
   walk s zero = s
   walk s (suc k) = back (walk s k)
 
-  walk_reaches : (s : Stand) (b a : ℕ) → a < b → Reaches links (walk s b).at' (walk s a).at'
+  walk_reaches : (s : Stand) (b a : ℕ) → a < b → Reaches links (walk s b).number (walk s a).number
+  unfolding back walk
   walk_reaches s zero a lt = absurd (omega arith)
   walk_reaches s (suc b) a lt =
       elim (cases_eq a b) [
-        | inl same ↦ subst (λ (x : ℕ). Reaches links (walk s (suc b)).at' (walk s x).at') (sym same) (at_once (back_feeds (walk s b)))
+        | inl same ↦ subst (λ (x : ℕ). Reaches links (walk s (suc b)).number (walk s x).number) (sym same) (at_once (back_feeds (walk s b)))
         | inr less ↦ through (back_feeds (walk s b)) (walk_reaches s b a (omega arith))
       ]
 
   pub loops : (i : ℕ) → i < length links → mark_at placed i ≡ false → (x : ℕ) × (x < length links) × Reaches links x x
-  loops i here open' =
-      let start : Stand = record { at' = i; left = record { here = here; open' = open' } } in
-      let r = two_equal (length links) (λ k. (walk start k).at') (λ k lt. (walk start k).left.here) in
-      let x = (walk start r.0).at' in
+  loops i here free =
+      let start : Stand = record { number = i; left = record { here = here; unmarked = free } } in
+      let r = two_equal (length links) (λ k. (walk start k).number) (λ k lt. (walk start k).left.here) in
+      let x = (walk start r.0).number in
       (x, (walk start r.0).left.here, subst (λ (y : ℕ). Reaches links y x) (sym r.4) (walk_reaches start r.1 r.0 r.2))

@@ -47,7 +47,7 @@ pub record IsFirstLoop (links : List Link) (i : ℕ) : Type 0 where
 
 -- an operator that isn't placed, with each of its sources placed
 pub record IsReadyMark (links : List Link) (placed : List Bool) (i : ℕ) : Type 0 where
-  pub open' : mark_at placed i ≡ false
+  pub unmarked : mark_at placed i ≡ false
   pub fed : AreMarked placed (link_at links i)
 
 -- the earliest of these

@@ -29,7 +29,7 @@ IsAcyclic links = (i : ℕ) → i < length links → ¬ Reaches links i i
 -- an operator that isn't placed, with each of its sources placed
 pub record IsReady (links : List Link) (placed : List ℕ) (i : ℕ) : Type 0 where
   pub here : i < length links
-  pub open' : ¬ Contains placed i
+  pub unplaced : ¬ Contains placed i
   pub fed : (a : ℕ) → Feeds links a i → Contains placed a
 
 -- the earliest operator that is ready
