@@ -6,3 +6,5 @@ pub mod Ports
 pub mod Rules
 pub mod Order
 pub mod Marks
+pub mod Graph
+pub mod Dag

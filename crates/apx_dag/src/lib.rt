@@ -3,10 +3,17 @@
 #![tactic(auto)]
 
 mod class;
+mod dag;
 mod link;
 mod names;
+mod node;
 mod order;
 mod port;
 mod refusal;
 mod role;
 mod rules;
+
+pub use dag::Dag;
+pub use node::Node;
+pub use refusal::AppRefusal;
+pub use role::Role;

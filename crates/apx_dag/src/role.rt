@@ -3,7 +3,7 @@
 ghost use Rattle.std.specs.Prelude.{◌≡◌, ◌≤◌, option_map, option_and_then, IfOk, IfSome};
 ghost use Rattle.std.specs.List.{list_all};
 ghost use Rattle.apx_json.specs.Integers.{integer_in};
-ghost use Rattle.apx_dag.specs.Role.{natural_in, is_file_name, takes, value_named, integer_named, natural_named, role_view, input_of, kind_of, built, role_of, role_in};
+ghost use Rattle.apx_dag.specs.Role.{within, natural_in, is_file_name, takes, value_named, integer_named, natural_named, role_view, input_of, kind_of, built, role_of, role_in};
 
 use crate::class::Class;
 use apx_json::{Name, OperatorText, Property, PropertyValue};
@@ -25,18 +25,27 @@ pub enum Role {
     Sink,
 }
 
-/// A whole number from `low` to `high`.
-fn natural(value: &PropertyValue, low: u32, high: u32) -> Option<u32>
-    ensures value { result ≡ natural_in low high value.now }
+/// An integer as a whole number from `low` to `high`.
+pub(crate) fn whole(n: i64, low: u32, high: u32) -> Option<u32>
+    ensures value { result ≡ within low high n }
     ensures low { IfSome result (λ n. low ≤ n) }
     ensures high { IfSome result (λ n. n ≤ high) }
 {
-    let number = u32::try_from(value.integer()?).ok()?;
+    let number = u32::try_from(n).ok()?;
     if low <= number && number <= high {
         Some(number)
     } else {
         None
     }
+}
+
+/// A value as a whole number from `low` to `high`.
+fn natural(value: &PropertyValue, low: u32, high: u32) -> Option<u32>
+    ensures value { result ≡ natural_in low high value.now }
+    ensures low { IfSome result (λ n. low ≤ n) }
+    ensures high { IfSome result (λ n. n ≤ high) }
+{
+    whole(value.integer()?, low, high)
 }
 
 /// Whether it is a text of 1 to 4,096 bytes that doesn't begin with `-`.

@@ -12,7 +12,7 @@ use crate::class::Class;
 use crate::names::{any_bad, first_repeated};
 use crate::port::{unfed, unjoined, used_again};
 use crate::refusal::{AppRefusal, refuse};
-use crate::role::operator_role;
+use crate::role::{operator_role, whole};
 use apx_json::{AppText, Name, OperatorText, StreamText};
 use std::alloc::{AllocError, Global};
 
@@ -98,7 +98,7 @@ fn is_one(n: i64) -> bool
 fn outside(low: u32, high: u32, n: i64) -> bool
     ensures { result ≡ outside low high n }
 {
-    n < i64::from(low) || i64::from(high) < n
+    whole(n, low, high).is_none()
 }
 
 fn wrong_partitions(operators: &[OperatorText]) -> Option<&OperatorText>
