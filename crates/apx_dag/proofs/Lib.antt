@@ -3,3 +3,7 @@ pub mod Marking
 pub mod Walk
 pub mod Placing
 pub mod Building
+pub mod Finding
+pub mod Inversions
+pub mod Roles
+pub mod Sources
