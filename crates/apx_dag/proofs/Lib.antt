@@ -7,3 +7,4 @@ pub mod Finding
 pub mod Inversions
 pub mod Roles
 pub mod Sources
+pub mod Answering
