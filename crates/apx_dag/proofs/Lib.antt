@@ -1,0 +1,10 @@
+pub mod Repeats
+pub mod Marking
+pub mod Walk
+pub mod Placing
+pub mod Building
+pub mod Finding
+pub mod Inversions
+pub mod Roles
+pub mod Sources
+pub mod Answering
