@@ -4,7 +4,7 @@
 pub use fault::WireFault;
 pub use message::Message;
 pub use reading::first_message;
-pub use writing::write;
+pub use writing::{write, write_payload};
 
 mod fault;
 mod message;

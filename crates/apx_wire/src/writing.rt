@@ -34,7 +34,8 @@ fn write_id(kind: u8, id: u64, into: &mut Vec<u8>) -> Result<(), AllocError>
     into.extend_from_slice(&[kind, a, b, c, d, e, f, g, h])
 }
 
-fn write_payload(tuple: &Tuple, into: &mut Vec<u8>) -> Result<(), AllocError>
+/// Appends the bytes of the payload with this tuple.
+pub fn write_payload(tuple: &Tuple, into: &mut Vec<u8>) -> Result<(), AllocError>
     ensures ok { OnOk result (into.new.items ≡ into.old.items ++ 1 ∷ tuple_spelling tuple.now) }
     ensures err { OnErr result (into.new.items ≡ into.old.items) }
 {

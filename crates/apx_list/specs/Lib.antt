@@ -1,0 +1,4 @@
+pub mod Cut
+pub mod Cutter
+pub mod Messages
+pub mod Plan

@@ -1,0 +1,10 @@
+//! The blocks of a stream: a window's messages cut into blocks, and the numbered list that keeps them.
+#![tactic(auto)]
+
+pub use block::Block;
+pub use cutting::cut;
+pub use plan::CutPlan;
+
+mod block;
+mod cutting;
+mod plan;
