@@ -3,8 +3,10 @@
 
 pub use block::Block;
 pub use cutting::cut;
+pub use list::{DataList, ListFault, Naming, Read};
 pub use plan::CutPlan;
 
 mod block;
 mod cutting;
+mod list;
 mod plan;
