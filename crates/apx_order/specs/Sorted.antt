@@ -1,12 +1,13 @@
 -- Sorting and counting over any order.
 --     sorted cmp xs          the members of xs in ascending order
+--     each_once cmp xs      the members of xs in ascending order, each once
 --     times cmp x xs         how often x stands in xs
 --     IsAscending cmp xs     no member is above one that comes after it
 --     IsExact cmp            a total order that calls equal only what is the same
 use Rattle.std.specs.Prelude.{◌≡◌, ℕ, ◌+◌, cond, false, List, [], ◌∷◌}
 use Rattle.std.specs.declared.cmp.Ordering.{Ordering}
 use Rattle.std.specs.declared.cmp.Ordering.TheVariants.{Equal}
-use Rattle.std.specs.Ordering.{is_gt, is_eq}
+use Rattle.std.specs.Ordering.{is_gt, is_eq, match_ordering}
 use Rattle.std.specs.Cmp.{IsTotalOrder}
 
 -- a total order that calls equal only what is the same
@@ -39,3 +40,14 @@ module _ {X : Type 0} (cmp : X → X → Ordering) where
   abbrev pub IsAscending : List X → Type 0
   IsAscending [] = Unit {0}
   IsAscending (x ∷ xs) = IsFloor x xs × IsAscending xs
+
+module _ {X : Type 0} (cmp : X → X → Ordering) where
+  -- xs with x in its place, where it doesn't stand there yet
+  unfoldable pub with_once : X → List X → List X
+  with_once x [] = x ∷ []
+  with_once x (y ∷ ys) = match_ordering (cmp x y) (x ∷ y ∷ ys) (y ∷ ys) (y ∷ with_once x ys)
+
+  -- the members of xs in ascending order, each once
+  unfoldable pub each_once : List X → List X
+  each_once [] = []
+  each_once (x ∷ xs) = with_once x (each_once xs)

@@ -1,1 +1,7 @@
+pub mod Graph
+pub mod Groups
 pub mod Lines
+pub mod Order
+pub mod Pairs
+pub mod Pass
+pub mod Texts

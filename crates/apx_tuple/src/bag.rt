@@ -65,6 +65,15 @@ impl Bag {
         Bag::of(all_tuples(alloc, parts)?)
     }
 
+    /// A bag with the same tuples.
+    pub fn copy(&self, alloc: Global) -> Result<Bag, AllocError>
+        ensures { IfOk result (λ bag. bag ≡ self.now) }
+    {
+        Ok(Bag {
+            tuples: copied(alloc, &self.tuples)?,
+        })
+    }
+
     /// The tuples, in ascending order.
     pub fn tuples(&self) -> &[Tuple]
         ensures tuples { result.now ≡ self.now }
@@ -92,4 +101,15 @@ fn all_tuples(alloc: Global, parts: Vec<Bag>) -> Result<Vec<Tuple>, AllocError>
         all.append(&mut tuples)?;
     }
     Ok(all)
+}
+
+/// The same tuples, in the same order.
+fn copied(alloc: Global, tuples: &[Tuple]) -> Result<Vec<Tuple>, AllocError>
+    ensures { IfOk result (λ copies. copies.items ≡ tuples.now) }
+{
+    let mut copies = Vec::with_capacity(alloc, tuples.len())?;
+    for tuple in tuples {
+        copies.push(tuple.copy()?)?;
+    }
+    Ok(copies)
 }

@@ -1,0 +1,5 @@
+pub mod Texts
+pub mod Decimal
+pub mod Integers
+pub mod Shape
+pub mod Reading

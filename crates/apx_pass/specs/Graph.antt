@@ -1,0 +1,24 @@
+-- Applications as plain records: a graph is its list of operators, in the order of the file.
+use Rattle.std.specs.Prelude.{ℕ, List, [], slice_index_or}
+use Rattle.apx_tuple.specs.declared.kind.Kind.{Kind}
+use Rattle.apx_tuple.specs.declared.kind.InputKind.{InputKind}
+
+-- an input reads the lines of a file, `per_window` to a window; the sink stores what reaches it
+pub data Role : Type 0 where
+  Input : (kind : InputKind) (file : List ℕ) (per_window : ℕ) → Role
+  Inner : (kind : Kind) → Role
+  Sink : Role
+
+-- An operator. `left` and `right` are the numbers of the operators that its ports read, its own number
+-- where it has no such port. It steps once for each `gathers` windows, over all that came in them.
+pub record Node : Type 0 where
+  pub name : List ℕ
+  pub role : Role
+  pub partitions : ℕ
+  pub left : ℕ
+  pub right : ℕ
+  pub gathers : ℕ
+
+-- the operator with a number, from 0; past the last one, a sink without a name
+abbrev pub node_at : List Node → ℕ → Node
+node_at nodes number = slice_index_or nodes number (record { name = []; role = Sink; partitions = 1; left = number; right = number; gathers = 1 })
