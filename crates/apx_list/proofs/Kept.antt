@@ -149,6 +149,7 @@ more_gone to count old blocks rest gone block split up counted some is rest_is l
     first_taken : (blocks rest : List Block) (block : Block) → 0 < length blocks → block ≡ get_or blocks 0 block → rest ≡ drop 1 blocks → blocks ≡ block ∷ rest
     first_taken [] rest block some is rest_is = absurd (omega (arith, some))
     first_taken (x ∷ xs) rest block some is rest_is = rw rest_is (ap (λ (y : Block). y ∷ xs) (sym is))
+
     AreUpTo-append : (to : ℕ) (gone : List Block) (block : Block) → AreUpTo to gone → block.window ≤ to → AreUpTo to (gone ++ block ∷ [])
     AreUpTo-append to [] block up le = (le, tt)
     AreUpTo-append to (x ∷ gone) block up le = (up.0, AreUpTo-append to gone block up.1 le)

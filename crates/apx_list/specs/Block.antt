@@ -38,6 +38,10 @@ pub record Spells (plan : CutPlan) (block : Block) : Type 0 where
   pub whole : AreMessages (block_messages plan block tuples ends)
   pub bytes : block.bytes ≡ spellings (block_messages plan block tuples ends)
 
+-- the bytes spell what the block says, under some plan
+abbrev pub IsBlock : Block → Type 0
+IsBlock block = (plan : CutPlan) × Spells plan block
+
 -- each block does
 abbrev pub AllSpell : CutPlan → List Block → Type 0
 AllSpell plan [] = Unit {0}

@@ -12,8 +12,8 @@ abbrev pub pieces_from : ℕ → List ℕ → List (List ℕ) → List (List ℕ
 pieces_from size piece [] = piece ∷ []
 pieces_from size piece (message ∷ messages) =
     if nat_le (length piece + length message) size
-      then pieces_from size (piece ++ message) messages
-      else piece ∷ pieces_from size message messages
+    then pieces_from size (piece ++ message) messages
+    else piece ∷ pieces_from size message messages
 
 abbrev pub pieces_of : CutPlan → ℕ → List Tuple → List (List ℕ)
 pieces_of plan window tuples = pieces_from plan.size [] (map spelling (messages_of plan window tuples))

@@ -5,3 +5,4 @@ pub mod Listed
 pub mod Messages
 pub mod Plan
 pub mod Reads
+pub mod Tuples

@@ -79,8 +79,8 @@ pub record IsDropped (old new : List Block) (to count : ℕ) : Type 0 where
 abbrev pub start_of : {N : Type 0} → Listed N → ℕ → Option ℕ
 start_of list window =
     if nat_lt list.floor window && nat_le window (list.top + 1)
-      then Some (list.first + before window list.blocks)
-      else None
+    then Some (list.first + before window list.blocks)
+    else None
 
 -- What a list keeps of its numbers beside its blocks.
 pub record IsKept (plan : CutPlan) (floor top first : ℕ) (blocks : List Block) (from : ℕ) (starts : List ℕ) (next_start : ℕ) : Type 0 where

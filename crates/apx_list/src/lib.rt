@@ -5,8 +5,10 @@ pub use block::Block;
 pub use cutting::cut;
 pub use list::{DataList, ListFault, Naming, Read};
 pub use plan::CutPlan;
+pub use tuples::payloads;
 
 mod block;
 mod cutting;
 mod list;
 mod plan;
+mod tuples;

@@ -4,8 +4,6 @@ ghost use Rattle.apx_list.specs.Plan.{IsPlan};
 ghost use Rattle.apx_list.specs.Listed.{IsNext, with_block, next_number, IsPurged, IsDropped, start_of};
 ghost use Rattle.apx_list.specs.Reads.{Gives};
 
-
-
 use crate::block::Block;
 use crate::plan::CutPlan;
 use apx_device::Spool;
