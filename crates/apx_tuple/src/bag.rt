@@ -44,8 +44,8 @@ impl Bag {
     /// `Large` comes only where they are too large for a bag. The tuples are dropped on a refusal.
     pub fn of(mut tuples: Vec<Tuple>) -> Result<Bag, Short>
         ensures ok { IfOk result (λ bag. bag ≡ bag_of tuples.items) }
-        ensures small { OnOk result (size_by tuple_key tuples.items < 4294967232) }
-        ensures large { result ≡ Err Short.Large → IsLarge tuple_key tuples.items }
+        ensures small { OnOk result (size_by tuple_key (bag_of tuples.items) < 4294967232) }
+        ensures large { result ≡ Err Short.Large → IsLarge tuple_key (bag_of tuples.items) }
     {
         if is_large(&tuples) {
             return Err(Short::Large);
@@ -59,8 +59,8 @@ impl Bag {
     /// `Large` comes only where these are too large for a bag. The parts are dropped on a refusal.
     pub fn merge(alloc: Global, parts: Vec<Bag>) -> Result<Bag, Short>
         ensures ok { IfOk result (λ bag. bag ≡ bag_of (flat_map (λ part. part) parts.items)) }
-        ensures small { OnOk result (size_by tuple_key (flat_map (λ part. part) parts.items) < 4294967232) }
-        ensures large { result ≡ Err Short.Large → IsLarge tuple_key (flat_map (λ part. part) parts.items) }
+        ensures small { OnOk result (size_by tuple_key (bag_of (flat_map (λ part. part) parts.items)) < 4294967232) }
+        ensures large { result ≡ Err Short.Large → IsLarge tuple_key (bag_of (flat_map (λ part. part) parts.items)) }
     {
         Bag::of(all_tuples(alloc, parts)?)
     }

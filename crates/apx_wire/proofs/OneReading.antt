@@ -1,5 +1,5 @@
 -- A stream has one reading: one list of messages and one rest, or one thing that is wrong.
-use Rattle.std.proofs.Common.{◌≡◌, ℕ, ◌+◌, List, [], ◌∷◌, ◌++◌, length, Option, Some, None, Result, Ok, Err, true, false, refl, sym, ap, subst, ◌∙◌, append_assoc, inl, inr, ◌⊎◌}
+use Rattle.std.proofs.Common.{◌≡◌, ℕ, ◌+◌, List, [], ◌∷◌, ◌++◌, length, None, Result, Ok, Err, true, false, refl, sym, ap, subst, ◌∙◌, append_assoc, inl, inr, ◌⊎◌}
 use Rattle.std.specs.Prelude.{IfErr, OnOk}
 use Rattle.std.proofs.lemmas.List.Concat.{flat_map-cons}
 use Rattle.apx_wire.specs.declared.message.Message.{Message}
@@ -8,7 +8,7 @@ use Rattle.apx_wire.specs.declared.fault.WireFault.TheVariants.{BadType, BadKey,
 use Rattle.apx_wire.specs.Spelling.{IsMessage, spelling, spellings}
 use Rattle.apx_wire.specs.Judging.{judged, UnlessMemory}
 use Rattle.apx_wire.specs.Order.{Before, beginning, with_message, with_messages, may_follow, AreInOrder}
-use Rattle.apx_wire.specs.Stream.{Decoding, Decodes, Rejects, Settles, IsUnfinished, IsWrong, RejectsFrom, RejectsRest}
+use Rattle.apx_wire.specs.Stream.{Decoding, Decodes, Rejects, Settles, IsUnfinished, IsWrong, RejectsRest}
 use Rattle.apx_wire.proofs.Messages.{Judgement, read, read_is, judged_again, spelled_once}
 use Rattle.std.proofs.lemmas.Result.{on_ok_weaker, MatchResult-weaker}
 use Rattle.apx_wire.proofs.Streams.{Gets, UnlessMemory-map, feed_refused, feed_taken}

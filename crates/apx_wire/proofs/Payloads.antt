@@ -1,8 +1,8 @@
 -- A payload's bytes, judged at each stage of what has come.
-use Rattle.std.proofs.Common.{◌≡◌, ℕ, ◌+◌, ◌<◌, ◌≤◌, List, [], ◌∷◌, ◌++◌, length, take, drop, get_or, ◌*◌, Option, Some, None, Result, Ok, Err, refl, sym, ap, subst, ◌∙◌, arith, ltb, eqb, not, true, false, eq-eqb, inl, inr}
-use Rattle.std.proofs.lemmas.Bool.{cases_lt, le-ltb, lt-ltb, ltb-false}
+use Rattle.std.proofs.Common.{◌≡◌, ℕ, ◌+◌, ◌≤◌, List, length, take, drop, Some, Ok, refl, sym, ap, ◌∙◌, arith, ltb, eqb, true, false, eq-eqb}
+use Rattle.std.proofs.lemmas.Bool.{le-ltb}
 use Rattle.std.proofs.lemmas.List.{length-drop}
-use Rattle.std.specs.Int.{w16, w32, w64, from_be_bytes, cast_signed}
+use Rattle.std.specs.Int.{w64, from_be_bytes, cast_signed}
 use Rattle.apx_codec.specs.KeyNumber.{hash_of}
 use Rattle.apx_wire.specs.declared.message.Message.TheVariants.{Payload}
 use Rattle.apx_wire.proofs.Fields.{field_in-some}

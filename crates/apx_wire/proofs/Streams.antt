@@ -1,6 +1,6 @@
 -- Messages behind messages: the order, the bytes, and the message right before.
-use Rattle.std.proofs.Common.{◌≡◌, ℕ, zero, suc, ◌+◌, ◌-◌, ◌<◌, ◌≤◌, List, [], ◌∷◌, ◌++◌, length, get_or, drop, Option, Some, None, Result, Ok, Err, false, true, refl, sym, ap, subst, ◌∙◌, append_assoc, arith, inl, inr}
-use Rattle.std.proofs.lemmas.List.{length-append, drop_at, nil_from_length, append-nil}
+use Rattle.std.proofs.Common.{◌≡◌, ℕ, suc, ◌+◌, ◌-◌, ◌<◌, List, [], ◌∷◌, ◌++◌, length, get_or, drop, Option, Some, None, Result, Ok, Err, true, refl, sym, ap, subst, ◌∙◌, append_assoc, arith}
+use Rattle.std.proofs.lemmas.List.{length-append, nil_from_length, append-nil}
 use Rattle.std.specs.Option.{option_copied, option_or}
 use Rattle.std.specs.Slice.{IsGetResult}
 use Rattle.std.specs.Borrow.{Bor}
@@ -12,9 +12,9 @@ use Rattle.apx_wire.specs.declared.message.Message.TheVariants.{Payload, Begin, 
 use Rattle.apx_wire.specs.declared.fault.WireFault.{WireFault}
 use Rattle.apx_wire.specs.declared.fault.WireFault.TheVariants.{BadType, BadKey, BadNumber, BadOrder, Memory}
 use Rattle.apx_wire.specs.Judging.{UnlessMemory}
-use Rattle.apx_wire.specs.Spelling.{IsMessage, spelling, spellings, BeginsWith}
+use Rattle.apx_wire.specs.Spelling.{spelling, spellings, BeginsWith}
 use Rattle.apx_wire.specs.Order.{Before, beginning, window_after, with_message, with_messages, may_follow, AreInOrder}
-use Rattle.apx_wire.specs.Stream.{Decoding, Decodes, Rejects, Settles, IsUnfinished, IsWrong, RejectsFrom, RejectsRest, ReadsTo, latest_after}
+use Rattle.apx_wire.specs.Stream.{Decoding, Decodes, Rejects, Settles, IsWrong, RejectsFrom, RejectsRest, ReadsTo, latest_after}
 use Rattle.apx_wire.proofs.Messages.{judged-nothing}
 
 -- the last of some messages is the one right before

@@ -3,7 +3,7 @@
 --     spelling m      its bytes: a type byte and the fields, numbers big-endian
 --     spellings ms    the bytes of messages, one behind the other
 --     BeginsWith bytes m n     the bytes begin with m, which has n of them
-use Rattle.std.specs.Prelude.{◌≡◌, ℕ, ℤ, ◌^◌, ◌<◌, ◌≤◌, List, [], ◌∷◌, ◌++◌, length, drop, slice_index, FitsSigned}
+use Rattle.std.specs.Prelude.{◌≡◌, ℕ, ◌^◌, ◌<◌, ◌≤◌, List, [], ◌∷◌, ◌++◌, length, drop, slice_index, FitsSigned}
 use Rattle.std.specs.List.{flat_map}
 use Rattle.std.specs.Int.{w16, w32, w64, to_be_bytes, cast_unsigned}
 use Rattle.apx_codec.specs.KeyNumber.{hash_of}

@@ -2,11 +2,11 @@
 --     Decodes stream handed d       d has taken the stream, and handed out these messages
 --     Rejects stream fault          the fault is the first thing that is wrong with the stream
 --     Settles old new               a decoder has read the whole messages at the front of its rest
-use Rattle.std.specs.Prelude.{◌≡◌, ℕ, ◌+◌, ◌-◌, List, [], ◌∷◌, ◌++◌, length, Option, Some, None, Result, Ok, Err, false, ◌⊎◌}
+use Rattle.std.specs.Prelude.{◌≡◌, ℕ, ◌+◌, ◌-◌, List, [], ◌∷◌, ◌++◌, length, Option, Some, None, Ok, Err, false, ◌⊎◌}
 use Rattle.apx_wire.specs.declared.message.Message.{Message}
 use Rattle.apx_wire.specs.declared.fault.WireFault.{WireFault}
-use Rattle.apx_wire.specs.declared.fault.WireFault.TheVariants.{BadOrder, Memory}
-use Rattle.apx_wire.specs.Spelling.{spelling, spellings}
+use Rattle.apx_wire.specs.declared.fault.WireFault.TheVariants.{BadOrder}
+use Rattle.apx_wire.specs.Spelling.{spellings}
 use Rattle.apx_wire.specs.Judging.{judged}
 use Rattle.apx_wire.specs.Order.{Before, beginning, with_messages, may_follow, AreInOrder}
 

@@ -14,5 +14,7 @@ mod laws;
 mod message;
 mod order;
 mod reading;
+#[cfg(test)]
+mod tests;
 mod whole;
 mod writing;

@@ -29,11 +29,7 @@ pub fn first_message(
 }
 
 #[tactic(auto, unfolding(crate::specs::Judging::judged))]
-fn judge(
-    alloc: Global,
-    place: u64,
-    bytes: &[u8],
-) -> Result<Option<(Message, usize)>, WireFault>
+fn judge(alloc: Global, place: u64, bytes: &[u8]) -> Result<Option<(Message, usize)>, WireFault>
     ensures { Gives result (judged place bytes.now) }
 {
     match bytes {
@@ -96,7 +92,10 @@ fn first_payload(
         return Ok(None);
     };
     let key = make_key(alloc, key)?;
-    let tuple = Tuple { key, value: value.cast_signed() };
+    let tuple = Tuple {
+        key,
+        value: value.cast_signed(),
+    };
     Ok(Some((Message::Payload(tuple), 15 + key_len)))
 }
 

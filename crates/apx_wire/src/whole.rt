@@ -45,9 +45,13 @@ pub fn whole_messages(
     let mut window = window;
     let mut place = place;
     let mut rest = bytes;
-    'messages: while let Some((message, len)) =
-        next_in_order(alloc, latest_of(&messages, latest), window, place, rest)?
-    {
+    'messages: while let Some((message, len)) = next_in_order(
+        alloc,
+        latest_of(&messages, latest),
+        window,
+        place,
+        rest,
+    )? {
         window = window_with(window, &message);
         messages.push_back(message)?;
         rest = rest.split_at(len).1;

@@ -10,11 +10,11 @@ use Rattle.apx_wire.proofs.reading.first_payload.Goals as goal
 
 pub returns : goal.returns
 returns c =
-   let len : c.from-key_len.result ≡ key_length_in c.args.bytes.now = grind (arith, common_steps) in
-   let number : c.from_be_bytes-number.result ≡ number_in c.args.bytes.now = grind (arith, common_steps) in
-   let key : c.in_ok-key.key ≡ take c.from-key_len.result (drop 6 c.args.bytes.now) = grind (arith, common_steps) in
-   let hashed : hash_of c.in_ok-key.key ≡ c.from_be_bytes-number.result = ap hash_of c.in_ok-key.ensures.ok ∙ sym c.hash.ensures ∙ c.if-hash-number.false in
-   let value : Some c.in-Some.value ≡ field_in w64 (drop (6 + c.from-key_len.result) c.args.bytes.now) = grind (arith, common_steps, c.in-Some.ensures) in
-   let signed : to_z w64 (of_z w64 c.cast_signed.result) ≡ cast_signed w64 c.in-Some.value = grind (arith, to_z-of_z) in
-   let whole = payload_judged-read c.args.place c.args.bytes.now c.from-key_len.result c.from_be_bytes-number.result c.in-Some.value c.in_ok-key.key len number (omega arith) (omega arith) key hashed value in
-   rw signed whole
+    let len : c.from-key_len.result ≡ key_length_in c.args.bytes.now = grind (arith, common_steps) in
+    let number : c.from_be_bytes-number.result ≡ number_in c.args.bytes.now = grind (arith, common_steps) in
+    let key : c.in_ok-key.key ≡ take c.from-key_len.result (drop 6 c.args.bytes.now) = grind (arith, common_steps) in
+    let hashed : hash_of c.in_ok-key.key ≡ c.from_be_bytes-number.result = ap hash_of c.in_ok-key.ensures.ok ∙ sym c.hash.ensures ∙ c.if-hash-number.false in
+    let value : Some c.in-Some.value ≡ field_in w64 (drop (6 + c.from-key_len.result) c.args.bytes.now) = grind (arith, common_steps, c.in-Some.ensures) in
+    let signed : to_z w64 (of_z w64 c.cast_signed.result) ≡ cast_signed w64 c.in-Some.value = grind (arith, to_z-of_z) in
+    let whole = payload_judged-read c.args.place c.args.bytes.now c.from-key_len.result c.from_be_bytes-number.result c.in-Some.value c.in_ok-key.key len number (omega arith) (omega arith) key hashed value in
+    rw signed whole

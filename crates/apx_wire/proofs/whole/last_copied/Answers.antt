@@ -1,4 +1,4 @@
-use Rattle.std.proofs.Common.{◌≡◌, ◌-◌, Some, length, ap, sym, ◌∙◌}
+use Rattle.std.proofs.Common.{Some, ap, sym, ◌∙◌}
 use Rattle.apx_wire.proofs.Streams.{latest_after-last_is}
 use Rattle.apx_wire.proofs.whole.last_copied.Goals as goal
 

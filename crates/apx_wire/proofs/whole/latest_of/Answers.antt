@@ -1,4 +1,3 @@
-use Rattle.std.proofs.Common.{◌≡◌, arith}
 use Rattle.apx_wire.proofs.Streams.{latest_behind}
 use Rattle.apx_wire.proofs.whole.latest_of.Goals as goal
 
