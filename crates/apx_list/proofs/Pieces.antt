@@ -1,6 +1,6 @@
 -- Pieces and their numbers, and how many pieces a window has.
 use Rattle.std.proofs.Common.{◌≡◌, ℕ, ◌+◌, ◌*◌, ◌^◌, ◌<◌, ◌≤◌, List, [], ◌∷◌, ◌++◌, length, map, refl, sym, ap, ◌∙◌, arith, Bool, true, false, cond, eqb, leb, append_assoc, length-append, add_assoc, Result, Ok, Err}
-use Rattle.std.specs.Prelude.{OnOk}
+use Rattle.std.specs.Prelude.{OnOk, IfOk}
 use Rattle.std.proofs.lemmas.List.{map-append, append-nil, length-map}
 use Rattle.apx_tuple.specs.declared.tuple.Tuple.{Tuple}
 use Rattle.apx_tuple.specs.Size.{size_by}
@@ -83,6 +83,11 @@ Adds_both a b c first then f g rest =
 pub on_ok : {T E : Type 0} (r : Result T E) (P Q : Type 0) → (P → Q) → OnOk r P → OnOk r Q
 on_ok (Ok x) P Q f p = f p
 on_ok (Err e) P Q f p = tt
+
+-- P of the value makes Q of it, where there is one
+pub if_ok : {T E : Type 0} (r : Result T E) (P Q : T → Type 0) → ((x : T) → P x → Q x) → IfOk r P → IfOk r Q
+if_ok (Ok x) P Q f p = f x p
+if_ok (Err e) P Q f p = tt
 
 -- the pieces of all parts of a window, which an empty cutter was given one after the other
 pub whole_window : (plan : CutPlan) (window : ℕ) (tuples : List Tuple) (a b c d : Cutter) → a.done.items ≡ [] → a.current.items ≡ [] → a.size ≡ plan.size → Adds a b (opening plan window) → Adds b c (map Payload tuples) → Adds c d (closing plan window) → pieces_with d [] ≡ pieces_of plan window tuples

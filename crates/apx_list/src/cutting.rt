@@ -2,7 +2,9 @@
 ghost use Rattle.std.specs.Prelude.{◌≡◌, ◌^◌, ◌<◌, ◌≤◌, ◌∷◌, [], length, take, map, IfOk, OnOk};
 ghost use Rattle.apx_tuple.specs.Tuple.{IsBag};
 ghost use Rattle.apx_wire.specs.declared.message.Message.TheVariants.{Payload};
+ghost use Rattle.apx_wire.specs.Spelling.{IsTuple};
 ghost use Rattle.apx_list.specs.Plan.{IsPlan, IsWindow};
+ghost use Rattle.apx_list.specs.Block.{AreMessages, AllSpell};
 ghost use Rattle.apx_list.specs.Messages.{reset, opening, closing};
 ghost use Rattle.apx_list.specs.Cut.{pieces_of, numbered, blocks_of};
 ghost use Rattle.apx_list.specs.Cutter.{pieces_with, Adds, Settles};
@@ -20,7 +22,8 @@ use std::mem;
 pub fn cut(alloc: Global, plan: &CutPlan, window: u32, bag: &Bag) -> Result<Vec<Block>, AllocError>
     requires plan { IsPlan plan.now }
     requires window { IsWindow plan.now window }
-    ensures { IfOk result (λ blocks. blocks.items ≡ blocks_of plan.now window bag.now) }
+    ensures blocks { IfOk result (λ blocks. blocks.items ≡ blocks_of plan.now window bag.now) }
+    ensures spell { IfOk result (λ blocks. AllSpell plan.now blocks.items) }
 {
     number(alloc, window, pieces(alloc, plan, window, bag.tuples())?)
 }
@@ -55,7 +58,8 @@ impl Cutter {
     }
 
     fn add_tuple(&mut self, tuple: &Tuple) -> Result<(), AllocError>
-        ensures { OnOk result (Adds self.old self.new (Payload tuple.now ∷ [])) }
+        ensures adds { OnOk result (Adds self.old self.new (Payload tuple.now ∷ [])) }
+        ensures fits { IsTuple tuple.now }
     {
         let before = self.current.len();
         write_payload(tuple, &mut self.current)?;
@@ -132,7 +136,8 @@ fn close_window(cutter: &mut Cutter, plan: &CutPlan, window: u32) -> Result<(), 
 
 // The tuples of a window.
 fn add_tuples(cutter: &mut Cutter, tuples: &[Tuple]) -> Result<(), AllocError>
-    ensures { OnOk result (Adds cutter.old cutter.new (map Payload tuples.now)) }
+    ensures adds { OnOk result (Adds cutter.old cutter.new (map Payload tuples.now)) }
+    ensures fit { OnOk result (AreMessages (map Payload tuples.now)) }
 {
     for tuple in tuples {
         cutter.add_tuple(tuple)?;
@@ -149,7 +154,8 @@ fn pieces(
 ) -> Result<Vec<Vec<u8>>, AllocError>
     requires plan { IsPlan plan.now }
     requires window { IsWindow plan.now window }
-    ensures { IfOk result (λ pieces. map (λ piece. piece.items) pieces.items ≡ pieces_of plan.now window tuples.now) }
+    ensures pieces { IfOk result (λ pieces. map (λ piece. piece.items) pieces.items ≡ pieces_of plan.now window tuples.now) }
+    ensures fit { OnOk result (AreMessages (map Payload tuples.now)) }
 {
     let mut cutter = Cutter::new(alloc, plan.size);
     open_window(&mut cutter, plan, window)?;
