@@ -12,3 +12,6 @@ mod cutting;
 mod list;
 mod plan;
 mod tuples;
+
+#[cfg(test)]
+mod tests;
