@@ -61,6 +61,12 @@ impl Decoder {
     }
 
     /// Takes the next piece of the stream whole, or refuses it and changes nothing.
+    ///
+    /// What is refused is the first thing that is wrong with the stream up to the piece's end: a
+    /// type byte that no message has, a key length above 1,024 once both its bytes are there, a
+    /// number that isn't its key's once the key is whole, a whole message out of order.
+    ///
+    /// All pieces together take time in proportion to their bytes.
     pub fn feed(&mut self, piece: &[u8]) -> Result<(), WireFault>
         requires { self.old.fed + length piece.now < 2 ^ 64 }
 
