@@ -36,3 +36,8 @@ holds_before app e =
     let s5 = step 5 (no_port app) _ s4.1 in
     let s6 = step 6 (port_again app) _ s5.1 in
     record { few = s1.0; names = s2.0; classes = s3.0; properties = s4.0; ports = s5.0; once = s6.0; used = unless_ok 7 (unused_port app) s6.1 }
+
+-- an application whose later rules hold has a store
+pub store_there : (app : Application) → after_cycles app ≡ Ok tt → no_store app ≡ None
+unfolding after_cycles
+store_there app e = (step 9 (no_store app) _ e).0
