@@ -77,10 +77,10 @@ placed_at p xs x e =
     elim (cases_lt (position_or_len p xs) (length xs)) [
       | inl lt ↦ let yes : ltb (position_or_len p xs) (length xs) ≡ true = lt-ltb _ _ lt in (position_or_len p xs, rw yes refl)
       | inr le ↦
-        let before : at_k.0 < position_or_len p xs = omega (arith, at_k.1) in
-        let fails : p (get_or xs at_k.0 x) ≡ false = fails_before_first p xs at_k.0 x before in
-        let passes : p (get_or xs at_k.0 x) ≡ true = rw at_k.2 at_k.3 in
-        absurd cc
+          let before : at_k.0 < position_or_len p xs = omega (arith, at_k.1) in
+          let fails : p (get_or xs at_k.0 x) ≡ false = fails_before_first p xs at_k.0 x before in
+          let passes : p (get_or xs at_k.0 x) ≡ true = rw at_k.2 at_k.3 in
+          absurd cc
     ]
 
 pub place_within : {X : Type 0} (p : X → Bool) (xs : List X) (a : ℕ) (d : X) → position p xs ≡ Some a → a < length xs

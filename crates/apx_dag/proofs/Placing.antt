@@ -57,9 +57,9 @@ module _ (links : List Link) (marks : List Bool) (order : List ℕ) (i : ℕ) (s
       elim (cases_eq k (length order)) [
         | inl last ↦ rw (last, take-append_seam order (i ∷ []), get_or-append_seam order i [] 0) is_next
         | inr less ↦
-          let before : k < length order = omega (arith, length-append order (i ∷ [])) in
-          let le : k ≤ length order = omega arith in
-          rw (take-append-le k order (i ∷ []) le, get_or_append_left order (i ∷ []) 0 k before) (so_far.next k before)
+            let before : k < length order = omega (arith, length-append order (i ∷ [])) in
+            let le : k ≤ length order = omega arith in
+            rw (take-append-le k order (i ∷ []) le, get_or_append_left order (i ∷ []) 0 k before) (so_far.next k before)
       ]
 
   pub place : Placed links (set marks i true) (order ++ i ∷ [])

@@ -34,9 +34,9 @@ two_equal (suc n) g below =
     elim (look g (g (suc n)) (suc n)) [
       | inl found ↦ (found.0, suc n, found.1, omega arith, found.2)
       | inr none ↦
-        let closed : (k : ℕ) → k < suc n → closed_up (g (suc n)) (g k) < n = λ k lt. closed_up_below (g (suc n)) (g k) n (below k (omega arith)) (below (suc n) (omega arith)) (none k lt) in
-        let r = two_equal n (λ k. closed_up (g (suc n)) (g k)) closed in
-        (r.0, r.1, r.2, omega (arith, r.3), closed_up_same (g (suc n)) (g r.0) (g r.1) (none r.0 (omega (arith, r.2, r.3))) (none r.1 r.3) r.4)
+          let closed : (k : ℕ) → k < suc n → closed_up (g (suc n)) (g k) < n = λ k lt. closed_up_below (g (suc n)) (g k) n (below k (omega arith)) (below (suc n) (omega arith)) (none k lt) in
+          let r = two_equal n (λ k. closed_up (g (suc n)) (g k)) closed in
+          (r.0, r.1, r.2, omega (arith, r.3), closed_up_same (g (suc n)) (g r.0) (g r.1) (none r.0 (omega (arith, r.2, r.3))) (none r.1 r.3) r.4)
     ]
 
 module _ (links : List Link) (placed : List Bool) (within : IsWithin links) (stuck : IsStuck links placed) where

@@ -167,7 +167,10 @@ pub(crate) fn used_again(streams: &[StreamText]) -> Option<&Name>
 fn feeds(stream: &StreamText, operator: &Name, port: &str) -> bool
     ensures { result ≡ list_any (is_port operator.now port.now) stream.now.sinks }
 {
-    stream.sinks.iter().any(|sink| is_port(operator, port, sink))
+    stream
+        .sinks
+        .iter()
+        .any(|sink| is_port(operator, port, sink))
 }
 
 fn is_fed_at(streams: &[StreamText], operator: &Name, port: &str) -> bool

@@ -167,11 +167,7 @@ fn takes_all(class: Class, properties: &[Property]) -> bool
 }
 
 /// The role of a class, where the properties that it needs are there.
-fn built(
-    alloc: Global,
-    class: Class,
-    properties: &[Property],
-) -> Result<Option<Role>, AllocError>
+fn built(alloc: Global, class: Class, properties: &[Property]) -> Result<Option<Role>, AllocError>
     ensures { IfOk result (λ role. option_map role_view role ≡ built class properties.now) }
 {
     match class {
@@ -185,11 +181,7 @@ fn built(
 /// The role of an operator of this class with these properties; `None` where a
 /// property isn't one of the class, a needed one is absent, or a value is
 /// outside its range.
-fn role_of(
-    alloc: Global,
-    class: Class,
-    properties: &[Property],
-) -> Result<Option<Role>, AllocError>
+fn role_of(alloc: Global, class: Class, properties: &[Property]) -> Result<Option<Role>, AllocError>
     ensures { IfOk result (λ role. option_map role_view role ≡ role_of class properties.now) }
 {
     if takes_all(class, properties) {
@@ -200,7 +192,10 @@ fn role_of(
 }
 
 /// The role of an operator; `None` also where its class is unknown.
-pub(crate) fn operator_role(alloc: Global, operator: &OperatorText) -> Result<Option<Role>, AllocError>
+pub(crate) fn operator_role(
+    alloc: Global,
+    operator: &OperatorText,
+) -> Result<Option<Role>, AllocError>
     ensures { IfOk result (λ role. option_map role_view role ≡ role_in operator.now) }
 {
     match Class::of(operator.class.text()) {

@@ -114,9 +114,7 @@ fn partitioned_end(operators: &[OperatorText]) -> Option<&OperatorText>
     ensures { option_map (λ o. o.now) result
         ≡ find (λ o. is_class classes.is_end o && not (is_one o.partitions)) operators.now }
 {
-    operators
-        .iter()
-        .find(|operator| is_end(operator) && !is_one(operator.partitions))
+    operators.iter().find(|operator| is_end(operator) && !is_one(operator.partitions))
 }
 
 /// The first stream with no sinks, or more than 8.
@@ -142,9 +140,7 @@ fn gathering_end(operators: &[OperatorText]) -> Option<&OperatorText>
     ensures { option_map (λ o. o.now) result
         ≡ find (λ o. is_class classes.is_end o && not (is_one o.app_windows)) operators.now }
 {
-    operators
-        .iter()
-        .find(|operator| is_end(operator) && !is_one(operator.app_windows))
+    operators.iter().find(|operator| is_end(operator) && !is_one(operator.app_windows))
 }
 
 fn has_bad_name(app: &AppText) -> bool
