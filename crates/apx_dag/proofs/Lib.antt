@@ -8,3 +8,5 @@ pub mod Inversions
 pub mod Roles
 pub mod Sources
 pub mod Answering
+pub mod Ranges
+pub mod Validity

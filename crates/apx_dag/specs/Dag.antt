@@ -4,6 +4,7 @@ use Rattle.std.specs.Global.{Vec}
 use Rattle.apx_pass.specs.Graph.{Node}
 use Rattle.apx_dag.specs.Order.{IsOrder}
 use Rattle.apx_dag.specs.Graph.{sources_in}
+use Rattle.apx_dag.specs.Valid.{IsGraph}
 
 abbrev pub nodes_in : List (Vec ℕ × Node) → List Node
 nodes_in entries = map (λ e. e.1) entries
@@ -19,3 +20,4 @@ pub record IsDag (entries : List (Vec ℕ × Node)) (order : List ℕ) : Type 0 
   pub few : length entries ≤ 16
   pub named : key_texts entries ≡ node_names entries
   pub ordered : IsOrder (sources_in (nodes_in entries)) order
+  pub valid : IsGraph (nodes_in entries)

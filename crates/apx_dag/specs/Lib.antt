@@ -7,4 +7,5 @@ pub mod Rules
 pub mod Order
 pub mod Marks
 pub mod Graph
+pub mod Valid
 pub mod Dag

@@ -10,6 +10,7 @@ ghost use Rattle.apx_dag.specs.Names.{named_again};
 ghost use Rattle.apx_dag.specs.Order.{IsSource, IsOrder};
 ghost use Rattle.apx_dag.specs.Ports.{link_of, links_of};
 ghost use Rattle.apx_dag.specs.Rules.{operator_name};
+ghost use Rattle.apx_dag.specs.Valid.{IsGraph};
 
 use crate::link::Link;
 use crate::node::Node;
@@ -143,6 +144,7 @@ impl Dag {
     pub fn len(&self) -> u16
         ensures len { result ≡ length self.now }
         ensures few { length self.now ≤ 16 }
+        ensures valid { IsGraph self.now }
     {
         self.nodes.len() as u16
     }

@@ -38,4 +38,4 @@ returns-in-Some c =
 
 pub invariant_of-result : goal.invariant_of-result
 invariant_of-result c =
-    is_dag c.args.app c.deref-2.result.now c.in_ok-nodes.nodes.entries c.in_ok-order.order.items c.in_ok-before_cycles.ensures (c.deref-2.ensures.value ∙ c.in_ok-links.ensures) c.in_ok-order.ensures c.in_ok-nodes.ensures.nodes c.in_ok-nodes.ensures.named
+    is_dag c.args.app c.deref-2.result.now c.in_ok-nodes.nodes.entries c.in_ok-order.order.items c.in_ok-before_cycles.ensures c.in_ok-after_cycles.ensures (c.deref-2.ensures.value ∙ c.in_ok-links.ensures) c.in_ok-order.ensures c.in_ok-nodes.ensures.nodes c.in_ok-nodes.ensures.named
