@@ -11,9 +11,9 @@ use Rattle.apx_dag.specs.Marks.{IsFirstLoop}
 use Rattle.apx_dag.specs.Order.{IsOrder}
 use Rattle.apx_dag.specs.Ports.{link_of, links_of}
 use Rattle.apx_dag.specs.Rules.{before_cycles, after_cycles}
-use Rattle.apx_dag.proofs.Inversions.{HoldsBefore, holds_before, store_there}
-use Rattle.apx_dag.proofs.Validity.{valid-graph}
+use Rattle.apx_dag.proofs.Inversions.{HoldsBefore, holds_before, holds_after}
 use Rattle.apx_dag.proofs.Sources.{few_operators, name_read, graph_sources}
+use Rattle.apx_dag.proofs.Validity.{is_graph}
 
 pub is_cycle : (app : Application) (links : List Link) (i : ℕ) (o : Operator) (place : List ℕ) → before_cycles app ≡ Ok tt → links ≡ links_of app → IsFirstLoop links i → o ≡ get_or app.operators i o → place ≡ o.name → IsRefused app 8 place
 is_cycle app links i o place before same first is name =
@@ -30,5 +30,5 @@ is_dag app links entries order before after same ordered nodes named =
       few = omega (arith, count, few_operators app holds);
       named = named;
       ordered = rw sources ordered;
-      valid = rw nodes (valid-graph app (few_operators app holds) (store_there app after));
+      valid = rw nodes (is_graph app order holds (holds_after app after) (rw (graph_sources app holds, ← same) ordered));
     }

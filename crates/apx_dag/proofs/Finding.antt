@@ -40,7 +40,7 @@ pub is_there : {A : Type 0} (o : Option A) → is_none o ≡ false → (x : A) �
 is_there None e = absurd cc
 is_there (Some x) e = (x, refl)
 
-nothing : {A : Type 0} (x : A) → Some x ≡ None → ⊥
+pub nothing : {A : Type 0} (x : A) → Some x ≡ None → ⊥
 nothing x e = absurd cc
 
 pub some_is : {A : Type 0} (x y : A) → Some x ≡ Some y → x ≡ y

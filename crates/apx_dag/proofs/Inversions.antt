@@ -37,7 +37,24 @@ holds_before app e =
     let s6 = step 6 (port_again app) _ s5.1 in
     record { few = s1.0; names = s2.0; classes = s3.0; properties = s4.0; ports = s5.0; once = s6.0; used = unless_ok 7 (unused_port app) s6.1 }
 
--- an application whose later rules hold has a store
-pub store_there : (app : Application) → after_cycles app ≡ Ok tt → no_store app ≡ None
+pub record HoldsAfter (app : Application) : Type 0 where
+  pub store : no_store app ≡ None
+  pub one : second_store app ≡ None
+  pub partitions : wrong_partitions app ≡ None
+  pub whole_ends : partitioned_end app ≡ None
+  pub sinks : wrong_sinks app ≡ None
+  pub names : bad_name app ≡ None
+  pub windows : wrong_windows app ≡ None
+  pub plain_ends : gathering_end app ≡ None
+
+pub holds_after : (app : Application) → after_cycles app ≡ Ok tt → HoldsAfter app
 unfolding after_cycles
-store_there app e = (step 9 (no_store app) _ e).0
+holds_after app e =
+    let s1 = step 9 (no_store app) _ e in
+    let s2 = step 10 (second_store app) _ s1.1 in
+    let s3 = step 11 (wrong_partitions app) _ s2.1 in
+    let s4 = step 12 (partitioned_end app) _ s3.1 in
+    let s5 = step 13 (wrong_sinks app) _ s4.1 in
+    let s6 = step 14 (bad_name app) _ s5.1 in
+    let s7 = step 15 (wrong_windows app) _ s6.1 in
+    record { store = s1.0; one = s2.0; partitions = s3.0; whole_ends = s4.0; sinks = s5.0; names = s6.0; windows = s7.0; plain_ends = unless_ok 16 (gathering_end app) s7.1 }

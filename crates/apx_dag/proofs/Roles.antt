@@ -67,7 +67,7 @@ built_link Match properties role left right e = inner_link _ role true left righ
 built_link Enrich properties role left right e = inner_link _ role true left right e (λ k h. at_kind _ k true refl h)
 built_link Store properties role left right e = rw (← some_is Sink role e) refl
 
-tested : {A : Type 0} (b : Bool) (o : Option A) (x : A) → cond b o None ≡ Some x → o ≡ Some x
+pub tested : {A : Type 0} (b : Bool) (o : Option A) (x : A) → cond b o None ≡ Some x → o ≡ Some x
 tested true o x e = e
 tested false o x e = absurd cc
 

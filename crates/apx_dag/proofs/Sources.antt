@@ -25,7 +25,7 @@ use Rattle.apx_dag.proofs.Roles.{where_port, role_link}
 
 -- ---- each source is there
 
-abbrev no_link : Link
+abbrev pub no_link : Link
 no_link = record { left = None; right = None }
 
 source_within : (app : Application) (name : List ℕ) (port : Option (List ℕ)) (a : ℕ) (o : Operator) → option_and_then (source_of app name) port ≡ Some a → a < length app.operators
@@ -34,7 +34,7 @@ source_within app name port a o e =
     let s = then_some (λ (s : Stream). position (is_named s.source.operator) app.operators) (find (λ s. list_any (is_port name p.0) s.sinks) app.streams) a p.2 in
     place_within (is_named s.0.source.operator) app.operators a o s.2
 
-no_source : (a : ℕ) → IsSource no_link a → ⊥
+pub no_source : (a : ℕ) → IsSource no_link a → ⊥
 no_source a (inl e) = cc
 no_source a (inr e) = cc
 
@@ -55,7 +55,7 @@ links_within app a b h = rw (length-map app.operators (link_of app)) (any_link a
 -- ---- a port that is joined has a source
 
 module _ (app : Application) (holds : HoldsBefore app) where
-  stream_joins : (s : Stream) (k : ℕ) → k < length app.streams → get_or app.streams k s ≡ s → joins_ports app.operators s ≡ true
+  pub stream_joins : (s : Stream) (k : ℕ) → k < length app.streams → get_or app.streams k s ≡ s → joins_ports app.operators s ≡ true
   stream_joins s k lt at_k =
       let none : find (λ s. not (joins_ports app.operators s)) app.streams ≡ None = map_none stream_name _ holds.ports in
       let fails = none_found (λ s. not (joins_ports app.operators s)) app.streams none k s lt in
@@ -115,7 +115,7 @@ module _ (app : Application) (holds : HoldsBefore app) where
   pub graph_sources : sources_in (graph_of app) ≡ links_of app
   graph_sources = sources_from app.operators 0 (λ j o lt e. (j, lt, e))
 
-whole_none : (b : Bool) → whole b ≡ None → b ≡ false
+pub whole_none : (b : Bool) → whole b ≡ None → b ≡ false
 whole_none true e = absurd cc
 whole_none false e = refl
 

@@ -17,3 +17,6 @@ pub use dag::Dag;
 pub use node::Node;
 pub use refusal::AppRefusal;
 pub use role::Role;
+
+#[cfg(test)]
+mod tests;
