@@ -6,3 +6,4 @@ pub mod Order
 pub mod Pairs
 pub mod Pass
 pub mod Texts
+pub mod Valid
