@@ -10,3 +10,5 @@ pub mod Sources
 pub mod Answering
 pub mod Ranges
 pub mod Validity
+pub mod Accepting
+pub mod Going

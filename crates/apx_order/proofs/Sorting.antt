@@ -43,7 +43,7 @@ module _ {X : Type 0} (cmp : X → X → Ordering) where
   sorted-times x (y ∷ ys) = with_member-times x y (sorted cmp ys) ∙ ap (λ n. cond (is_eq (cmp x y)) 1 0 + n) (sorted-times x ys)
 
 module _ {X : Type 0} {cmp : X → X → Ordering} (o : IsExact cmp) where
-  turned : (x y : X) → is_gt (cmp x y) ≡ true → is_gt (cmp y x) ≡ false
+  pub turned : (x y : X) → is_gt (cmp x y) ≡ true → is_gt (cmp y x) ≡ false
   turned x y h = by (cmp x y) (cmp y x) h (o.total.antisymm x y)
     where
       by : (r s : Ordering) → is_gt r ≡ true → r ≡ ordering_reverse s → is_gt s ≡ false
@@ -53,7 +53,7 @@ module _ {X : Type 0} {cmp : X → X → Ordering} (o : IsExact cmp) where
       by Equal Greater h e = cc
       by Greater Greater h e = cc
 
-  floor-down : (x y : X) (ys : List X) → is_gt (cmp x y) ≡ false → IsFloor cmp y ys → IsFloor cmp x ys
+  pub floor-down : (x y : X) (ys : List X) → is_gt (cmp x y) ≡ false → IsFloor cmp y ys → IsFloor cmp x ys
   floor-down x y [] h f = tt
   floor-down x y (z ∷ zs) h f = (upto o.total x y z h f.0, floor-down x y zs h f.1)
 
@@ -99,7 +99,7 @@ module _ {X : Type 0} {cmp : X → X → Ordering} (o : IsExact cmp) where
   unfolding times
   times-front x xs = ap (λ r. cond (is_eq r) 1 0 + times cmp x xs) (tied_itself o.total x)
 
-  times-less : (x y : X) (ys : List X) → cmp x y ≡ Less → IsFloor cmp y ys → times cmp x (y ∷ ys) ≡ 0
+  pub times-less : (x y : X) (ys : List X) → cmp x y ≡ Less → IsFloor cmp y ys → times cmp x (y ∷ ys) ≡ 0
   times-less x y ys h f = times-below x y (y ∷ ys) h (ap is_gt (tied_itself o.total y), f)
 
   -- ascending lists are one list where each member stands in them equally often
@@ -122,7 +122,7 @@ module _ {X : Type 0} {cmp : X → X → Ordering} (o : IsExact cmp) where
       by Equal e more = let same : x ≡ y = o.tight x y e in let rest : xs ≡ ys = more (tails same) in cc
 
   -- the order of std's sorts, member by member
-  step-down : (x y : X) → is_lt (cmp y x) ≡ false → is_gt (cmp x y) ≡ false
+  pub step-down : (x y : X) → is_lt (cmp y x) ≡ false → is_gt (cmp x y) ≡ false
   step-down x y h = by (cmp x y) (cmp y x) h (o.total.antisymm x y)
     where
       by : (r s : Ordering) → is_lt s ≡ false → r ≡ ordering_reverse s → is_gt r ≡ false

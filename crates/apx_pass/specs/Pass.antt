@@ -8,10 +8,10 @@
 --     mean job                  the sink's rows of each window
 use Rattle.std.specs.Prelude.{ℕ, zero, suc, ◌+◌, ◌/◌, ◌%◌, ◌==◌, max, Bool, true, false, cond, List, [], ◌∷◌, ◌++◌, length, Option, Some, None, slice_index_or}
 use Rattle.apx_tuple.specs.declared.kind.Kind.{Kind}
+use Rattle.apx_tuple.specs.declared.progress.Progress.{Progress}
 use Rattle.apx_tuple.specs.declared.tuple.Tuple.{Tuple}
 use Rattle.apx_tuple.specs.Kind.{has_right}
 use Rattle.apx_tuple.specs.Tuple.{bag_of}
-use Rattle.apx_tuple.specs.State.{Pair}
 use Rattle.apx_rules.specs.Step.{step}
 use Rattle.apx_pass.specs.Graph as graph
 use Rattle.apx_pass.specs.Graph.{Role, Node, node_at}
@@ -22,12 +22,7 @@ pub record Job : Type 0 where
   pub nodes : List Node
   pub inputs : List (Option Input)
 
--- what an operator carries from window to window: its state, and what came since its last step
-pub record Progress : Type 0 where
-  pub state : List Pair
-  pub left : List Tuple
-  pub right : List Tuple
-
+-- what an operator carries at the start: nothing
 abbrev pub at_start : Progress
 at_start = record { state = []; left = []; right = [] }
 
@@ -56,13 +51,13 @@ rows_of_input None w = []
 rows_of_input (Some input) w = window_bag input w
 
 -- an input gives its window, and the sink what reaches it; they carry nothing
-unfoldable pub pass_node : Node → Option Input → ℕ → Progress → List Tuple → List Tuple → Passed
-pass_node node input w progress left right = by_role node.role
-  where
-    by_role : Role → Passed
-    by_role (graph.Input kind file per_window) = record { progress = at_start; rows = rows_of_input input w }
-    by_role (graph.Inner kind) = gather kind node.gathers w progress left (cond (has_right kind) right [])
-    by_role graph.Sink = record { progress = at_start; rows = left }
+unfoldable pub pass_role : Role → ℕ → Option Input → ℕ → Progress → List Tuple → List Tuple → Passed
+pass_role (graph.Input kind file per_window) gathers input w progress left right = record { progress = at_start; rows = rows_of_input input w }
+pass_role (graph.Inner kind) gathers input w progress left right = gather kind gathers w progress left (cond (has_right kind) right [])
+pass_role graph.Sink gathers input w progress left right = record { progress = at_start; rows = left }
+
+abbrev pub pass_node : Node → Option Input → ℕ → Progress → List Tuple → List Tuple → Passed
+pass_node node = pass_role node.role node.gathers
 
 -- What operator o makes of window w, where `before` is what each operator carries into it, seen
 -- through so many streams. No stream leads back, so as many as there are operators reach the inputs.
@@ -92,7 +87,7 @@ windows_of (Some input ∷ inputs) = max (groups input) (windows_of inputs)
 abbrev pub windows : Job → ℕ
 windows job = windows_of job.inputs
 
-abbrev is_sink : Role → Bool
+abbrev pub is_sink : Role → Bool
 is_sink graph.Sink = true
 is_sink _ = false
 

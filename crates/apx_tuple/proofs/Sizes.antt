@@ -2,7 +2,7 @@
 use Rattle.std.proofs.Common.{◌≡◌, ℕ, ℤ, ◌+◌, ◌<◌, ◌≤◌, Bool, true, false, cond, List, [], ◌∷◌, length, take, get_or, refl, sym, ap, ◌∙◌, arith, Option, Some}
 use Rattle.std.specs.declared.cmp.Ordering.{Ordering}
 use Rattle.std.specs.declared.cmp.Ordering.TheVariants.{Less, Equal, Greater}
-use Rattle.std.specs.Ordering.{is_eq, match_ordering}
+use Rattle.std.specs.Ordering.{is_eq, is_gt, match_ordering}
 use Rattle.std.specs.Option.{is_some}
 use Rattle.std.specs.Cmp.{IsTotalOrder}
 use Rattle.std.specs.BTreeMap.{insert_entry, is_at}
@@ -15,7 +15,9 @@ use Rattle.std.proofs.lemmas.Map.{lookup-none}
 use Rattle.std.proofs.lemmas.Map.Entries.{none_below_head}
 use Rattle.apx_tuple.specs.Size.{size_by}
 use Rattle.apx_tuple.specs.State.{Pair, pair_key, value_at, with_entry, without_entry}
-use Rattle.apx_tuple.specs.Tuple.{key_order}
+use Rattle.apx_order.specs.Sorted.{with_member, sorted}
+use Rattle.apx_tuple.specs.declared.tuple.Tuple.{Tuple}
+use Rattle.apx_tuple.specs.Tuple.{key_order, tuple_key, tuple_order, bag_of}
 use Rattle.apx_tuple.proofs.Orders.{key_order-exact, same-length}
 
 module _ {X : Type 0} (key : X → List ℕ) where
@@ -104,3 +106,23 @@ size_by-set-new new es k v old e s f h = ap (size_by pair_key) e ∙ size_by-wit
 
 pub size_by-set-small : (new es : List Pair) (k : List ℕ) (v : ℤ) → new ≡ with_entry es k v → ((w : ℤ) → size_by pair_key (with_entry es k w) < 4294967232) → size_by pair_key new < 4294967232
 size_by-set-small new es k v e small = let now = ap (size_by pair_key) e in omega (arith, now, small v)
+
+-- sorting leaves the size
+module _ {X : Type 0} (key : X → List ℕ) (cmp : X → X → Ordering) where
+  size_by-with_member : (x : X) (ys : List X) → size_by key (with_member cmp x ys) ≡ size_by key (x ∷ ys)
+  unfolding with_member
+  size_by-with_member x [] = refl
+  size_by-with_member x (y ∷ ys) = by (is_gt (cmp x y)) (size_by-with_member x ys)
+    where
+      by : (b : Bool) → size_by key (with_member cmp x ys) ≡ size_by key (x ∷ ys) → size_by key (cond b (y ∷ with_member cmp x ys) (x ∷ y ∷ ys)) ≡ size_by key (x ∷ y ∷ ys)
+      by true e = omega (arith, e)
+      by false e = refl
+
+  pub size_by-sorted : (xs : List X) → size_by key (sorted cmp xs) ≡ size_by key xs
+  unfolding sorted
+  size_by-sorted [] = refl
+  size_by-sorted (x ∷ xs) = size_by-with_member x (sorted cmp xs) ∙ ap (λ n. length (key x) + 10 + n) (size_by-sorted xs)
+
+-- a bag is as large as the tuples that it is of
+pub size_by-bag_of : (tuples : List Tuple) → size_by tuple_key (bag_of tuples) ≡ size_by tuple_key tuples
+size_by-bag_of tuples = size_by-sorted tuple_key tuple_order tuples

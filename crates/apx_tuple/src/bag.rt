@@ -44,8 +44,8 @@ impl Bag {
     /// `Large` comes only where they are too large for a bag. The tuples are dropped on a refusal.
     pub fn of(mut tuples: Vec<Tuple>) -> Result<Bag, Short>
         ensures ok { IfOk result (λ bag. bag ≡ bag_of tuples.items) }
-        ensures small { OnOk result (size_by tuple_key tuples.items < 4294967232) }
-        ensures large { result ≡ Err Short.Large → IsLarge tuple_key tuples.items }
+        ensures small { OnOk result (size_by tuple_key (bag_of tuples.items) < 4294967232) }
+        ensures large { result ≡ Err Short.Large → IsLarge tuple_key (bag_of tuples.items) }
     {
         if is_large(&tuples) {
             return Err(Short::Large);
@@ -59,10 +59,19 @@ impl Bag {
     /// `Large` comes only where these are too large for a bag. The parts are dropped on a refusal.
     pub fn merge(alloc: Global, parts: Vec<Bag>) -> Result<Bag, Short>
         ensures ok { IfOk result (λ bag. bag ≡ bag_of (flat_map (λ part. part) parts.items)) }
-        ensures small { OnOk result (size_by tuple_key (flat_map (λ part. part) parts.items) < 4294967232) }
-        ensures large { result ≡ Err Short.Large → IsLarge tuple_key (flat_map (λ part. part) parts.items) }
+        ensures small { OnOk result (size_by tuple_key (bag_of (flat_map (λ part. part) parts.items)) < 4294967232) }
+        ensures large { result ≡ Err Short.Large → IsLarge tuple_key (bag_of (flat_map (λ part. part) parts.items)) }
     {
         Bag::of(all_tuples(alloc, parts)?)
+    }
+
+    /// A bag with the same tuples.
+    pub fn copy(&self, alloc: Global) -> Result<Bag, AllocError>
+        ensures { IfOk result (λ bag. bag ≡ self.now) }
+    {
+        Ok(Bag {
+            tuples: copied(alloc, &self.tuples)?,
+        })
     }
 
     /// The tuples, in ascending order.
@@ -92,4 +101,15 @@ fn all_tuples(alloc: Global, parts: Vec<Bag>) -> Result<Vec<Tuple>, AllocError>
         all.append(&mut tuples)?;
     }
     Ok(all)
+}
+
+/// The same tuples, in the same order.
+fn copied(alloc: Global, tuples: &[Tuple]) -> Result<Vec<Tuple>, AllocError>
+    ensures { IfOk result (λ copies. copies.items ≡ tuples.now) }
+{
+    let mut copies = Vec::with_capacity(alloc, tuples.len())?;
+    for tuple in tuples {
+        copies.push(tuple.copy()?)?;
+    }
+    Ok(copies)
 }

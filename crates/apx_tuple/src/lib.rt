@@ -7,6 +7,7 @@
 pub use bag::Bag;
 pub use key::Key;
 pub use kind::{InputKind, Kind};
+pub use progress::Progress;
 pub use refusal::{KeyRefusal, Short};
 pub use state::{Pairs, State};
 pub use tuple::Tuple;
@@ -14,7 +15,10 @@ pub use tuple::Tuple;
 mod bag;
 mod key;
 mod kind;
+mod progress;
 mod refusal;
 mod size;
 mod state;
+#[cfg(test)]
+mod tests;
 mod tuple;

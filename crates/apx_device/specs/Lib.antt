@@ -1,0 +1,9 @@
+pub mod Cause
+pub mod Folder
+pub mod Keeper
+pub mod MemoryKeeper
+pub mod MemoryFolder
+pub mod MemoryOut
+pub mod MemorySpool
+pub mod Out
+pub mod Spool

@@ -1,0 +1,48 @@
+// Which calls of a device in memory are to fail.
+ghost use Rattle.std.specs.Prelude.{◌≡◌, ◌+◌, ◌-◌, ◌^◌, ◌↔◌, min, ⊤, IsTrue, Contains};
+ghost use Rattle.std.specs.Bool.{OnFalse};
+ghost use Rattle.apx_device.specs.Cause.{HasCause};
+
+/// The numbers of the calls that are to fail, counted from 1, with the calls made and the faults so far.
+#[derive(Drop)]
+pub(crate) struct FailingCalls {
+    pub(crate) numbers: Vec<u64>,
+    pub(crate) made: u64,
+    pub(crate) faults: u64,
+}
+
+impl FailingCalls {
+    pub(crate) fn new(numbers: Vec<u64>) -> Self
+        ensures { result ≡ record { numbers = numbers; made = 0; faults = 0 } }
+    {
+        FailingCalls {
+            numbers,
+            made: 0,
+            faults: 0,
+        }
+    }
+
+    /// Counts one fault, up to the last value.
+    pub(crate) fn count_fault(&mut self)
+        ensures counted { self.new ≡ record self.old { faults = min (self.old.faults + 1) (2 ^ 64 - 1) } }
+        ensures cause { HasCause self.old.faults self.new.faults ⊤ }
+    {
+        self.faults = self.faults.saturating_add(1);
+    }
+
+    /// Counts one call, and the fault where the call is to fail.
+    pub(crate) fn next_fails(&mut self) -> bool
+        ensures fails { IsTrue result ↔ Contains self.old.numbers.items (min (self.old.made + 1) (2 ^ 64 - 1)) }
+        ensures cause { HasCause self.old.faults self.new.faults (IsTrue result) }
+        ensures unharmed { OnFalse result (self.new.faults ≡ self.old.faults) }
+        ensures made { self.new.made ≡ min (self.old.made + 1) (2 ^ 64 - 1) }
+        ensures numbers { self.new.numbers ≡ self.old.numbers }
+    {
+        self.made = self.made.saturating_add(1);
+        let fails = self.numbers.contains(&self.made);
+        if fails {
+            self.count_fault();
+        }
+        fails
+    }
+}

@@ -1,0 +1,15 @@
+//! What an operator makes of a window: the state from then on, and the rows.
+//!
+//! [`step`] serves all kinds of operators. The keys that came are walked in ascending order, and a kind
+//! adds its rule for one key; what `top` makes of a window has a function of its own.
+#![tactic(auto)]
+
+pub use steps::step;
+
+mod rules;
+mod steps;
+#[cfg(test)]
+mod tests;
+mod top;
+mod walk;
+mod words;

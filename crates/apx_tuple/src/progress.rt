@@ -1,0 +1,27 @@
+//! What an operator carries from window to window.
+ghost use Rattle.std.specs.Prelude.{◌≡◌, []};
+
+use crate::bag::Bag;
+use crate::state::State;
+use std::alloc::Global;
+
+/// An operator's state, and what came on its ports since its last step.
+#[derive(Debug, Drop)]
+pub struct Progress {
+    pub state: State,
+    pub left: Bag,
+    pub right: Bag,
+}
+
+impl Progress {
+    /// What an operator has at the start: nothing.
+    pub fn new(alloc: Global) -> Progress
+        ensures { result ≡ record { state = []; left = []; right = [] } }
+    {
+        Progress {
+            state: State::new(alloc),
+            left: Bag::new(alloc),
+            right: Bag::new(alloc),
+        }
+    }
+}

@@ -1,0 +1,66 @@
+-- What a reader that goes from left to right makes of bytes that begin with a message's type byte, at a
+-- place in the stream: the message and how many bytes it has; nothing, while it isn't whole and there is
+-- nothing wrong with what has come of it; or what is wrong, as soon as it shows.
+use Rattle.std.specs.Prelude.{◌≡◌, ℕ, ◌+◌, List, [], ◌∷◌, length, take, drop, Option, Some, None, Result, Ok, Err, nat_lt, ◌==◌, not, if◌then◌else◌}
+use Rattle.std.specs.Option.{option_map}
+use Rattle.std.specs.Int.{Width, byte_len, w16, w32, w64, from_be_bytes, cast_signed}
+use Rattle.apx_codec.specs.KeyNumber.{hash_of}
+use Rattle.apx_tuple.specs.declared.tuple.Tuple.{Tuple}
+use Rattle.apx_wire.specs.declared.message.Message.{Message}
+use Rattle.apx_wire.specs.declared.message.Message.TheVariants.{Payload, Begin, End, Checkpoint, Reset, EndOfStream}
+use Rattle.apx_wire.specs.declared.fault.WireFault.{WireFault}
+use Rattle.apx_wire.specs.declared.fault.WireFault.TheVariants.{BadType, BadKey, BadNumber, BadOrder, Memory}
+
+-- the fields of a payload behind its type byte
+abbrev pub number_in : List ℕ → ℕ
+number_in bytes = from_be_bytes w32 (take 4 bytes)
+
+abbrev pub key_length_in : List ℕ → ℕ
+key_length_in bytes = from_be_bytes w16 (take 2 (drop 4 bytes))
+
+abbrev pub key_in : List ℕ → List ℕ
+key_in bytes = take (key_length_in bytes) (drop 6 bytes)
+
+abbrev pub tuple_in : List ℕ → Tuple
+tuple_in bytes = record {
+  key = key_in bytes;
+  value = cast_signed w64 (from_be_bytes w64 (take 8 (drop (6 + key_length_in bytes) bytes)));
+}
+
+-- The length is judged once both its bytes are there, the number once the key is whole.
+unfoldable pub payload_judged : ℕ → List ℕ → Result (Option (Message × ℕ)) WireFault
+payload_judged place bytes =
+    if nat_lt (length bytes) 6 then Ok None else
+    if nat_lt 1024 (key_length_in bytes) then Err (BadKey place) else
+    if nat_lt (length bytes) (6 + key_length_in bytes) then Ok None else
+    if not (hash_of (key_in bytes) == number_in bytes) then Err (BadNumber place) else
+    if nat_lt (length bytes) (14 + key_length_in bytes) then Ok None else
+    Ok (Some (Payload (tuple_in bytes), 15 + key_length_in bytes))
+
+-- a number behind the type byte, once it is there
+abbrev pub field_in : Width → List ℕ → Option ℕ
+field_in w bytes = if nat_lt (length bytes) (byte_len w) then None else Some (from_be_bytes w (take (byte_len w) bytes))
+
+unfoldable pub judged : ℕ → List ℕ → Result (Option (Message × ℕ)) WireFault
+judged place [] = Ok None
+judged place (kind ∷ bytes) =
+    if kind == 1 then payload_judged place bytes else
+    if kind == 2 then Ok (option_map (λ id. (Begin id, 9)) (field_in w64 bytes)) else
+    if kind == 3 then Ok (option_map (λ id. (End id, 9)) (field_in w64 bytes)) else
+    if kind == 4 then Ok (option_map (λ id. (Checkpoint id, 9)) (field_in w64 bytes)) else
+    if kind == 5 then Ok (option_map (λ second. (Reset second, 5)) (field_in w32 bytes)) else
+    if kind == 6 then Ok (Some (EndOfStream, 1)) else
+    Err (BadType place)
+
+-- p holds, unless memory ran out
+abbrev pub UnlessMemory : WireFault → Type 0 → Type 0
+UnlessMemory Memory p = Unit {0}
+UnlessMemory (BadType _) p = p
+UnlessMemory (BadKey _) p = p
+UnlessMemory (BadNumber _) p = p
+UnlessMemory (BadOrder _) p = p
+
+-- what a reader returned is what the bytes are judged to be, unless memory ran out
+abbrev pub Gives : {X : Type 0} → Result X WireFault → Result X WireFault → Type 0
+Gives (Ok x) judgement = judgement ≡ Ok x
+Gives (Err fault) judgement = UnlessMemory fault (judgement ≡ Err fault)

@@ -1,0 +1,4 @@
+pub mod Spelling
+pub mod Judging
+pub mod Order
+pub mod Stream
