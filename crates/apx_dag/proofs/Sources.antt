@@ -67,7 +67,7 @@ module _ (app : Application) (holds : HoldsBefore app) where
       let source : is_source app.operators s.0.source ≡ true = (and_true (is_source app.operators s.0.source) (list_all (is_sink app.operators) s.0.sinks) joins).0 in
       let o = map_or_true _ (find (is_named s.0.source.operator) app.operators) source in
       let a = placed_at (is_named s.0.source.operator) app.operators o.0 o.1 in
-      (a.0, ap (option_and_then (λ (s : Stream). position (is_named s.source.operator) app.operators)) s.1 ∙ a.1)
+      (a.0, rw s.1 a.1)
 
   -- a port's source, or the operator's own number
   joined_port : (name : List ℕ) (port : Option (List ℕ)) (own : ℕ) → is_fed app.streams name port ≡ true → where_port port (unwrap_or (option_and_then (source_of app name) port) own) ≡ option_and_then (source_of app name) port
