@@ -11,11 +11,9 @@ use Rattle.apx_dag.specs.Marks.{IsFirstLoop}
 use Rattle.apx_dag.specs.Order.{IsOrder}
 use Rattle.apx_dag.specs.Ports.{link_of, links_of}
 use Rattle.apx_dag.specs.Rules.{before_cycles, after_cycles}
-use Rattle.apx_dag.specs.Valid.{IsGraph}
 use Rattle.apx_dag.proofs.Inversions.{holds_before, holds_after}
 use Rattle.apx_dag.proofs.Sources.{few_operators, name_read, graph_sources}
 use Rattle.apx_dag.proofs.Validity.{is_graph}
-use Rattle.apx_dag.proofs.Accepting.{is_valid}
 
 pub is_cycle : (app : Application) (links : List Link) (i : ℕ) (o : Operator) (place : List ℕ) → before_cycles app ≡ Ok tt → links ≡ links_of app → IsFirstLoop links i → o ≡ get_or app.operators i o → place ≡ o.name → IsRefused app 8 place
 is_cycle app links i o place before same first is name =
@@ -28,11 +26,9 @@ is_dag app links entries order before after same ordered nodes named =
     let holds = holds_before app before in
     let sources : sources_in (nodes_in entries) ≡ links = ap (map sources_of) nodes ∙ graph_sources app holds ∙ sym same in
     let count : length entries ≡ length app.operators = sym (length-map entries (λ (e : Vec ℕ × Node). e.1)) ∙ sym (length-map (nodes_in entries) sources_of) ∙ ap length sources ∙ ap length same ∙ length-map app.operators (link_of app) in
-    let graph : IsGraph (graph_of app) = is_graph app order holds (holds_after app after) (rw (graph_sources app holds, ← same) ordered) in
     record {
       few = omega (arith, count, few_operators app holds);
       named = named;
       ordered = rw sources ordered;
-      graph = rw nodes graph;
-      valid = rw nodes (is_valid (graph_of app) (omega (arith, ap length nodes, length-map entries (λ (e : Vec ℕ × Node). e.1), count, few_operators app holds)) graph);
+      valid = rw nodes (is_graph app order holds (holds_after app after) (rw (graph_sources app holds, ← same) ordered));
     }

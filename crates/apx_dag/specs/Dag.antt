@@ -2,7 +2,6 @@
 use Rattle.std.specs.Prelude.{◌≡◌, ℕ, ◌≤◌, List, length, map}
 use Rattle.std.specs.Global.{Vec}
 use Rattle.apx_pass.specs.Graph.{Node}
-use Rattle.apx_pass.specs.Valid.{IsValid}
 use Rattle.apx_dag.specs.Order.{IsOrder}
 use Rattle.apx_dag.specs.Graph.{sources_in}
 use Rattle.apx_dag.specs.Valid.{IsGraph}
@@ -16,10 +15,9 @@ key_texts entries = map (λ e. e.0.items) entries
 abbrev pub node_names : List (Vec ℕ × Node) → List (List ℕ)
 node_names entries = map (λ e. e.1.name) entries
 
--- the operators under their names, and their order; the graph is valid
+-- the operators under their names, and their order
 pub record IsDag (entries : List (Vec ℕ × Node)) (order : List ℕ) : Type 0 where
   pub few : length entries ≤ 16
   pub named : key_texts entries ≡ node_names entries
   pub ordered : IsOrder (sources_in (nodes_in entries)) order
-  pub graph : IsGraph (nodes_in entries)
-  pub valid : IsValid (nodes_in entries)
+  pub valid : IsGraph (nodes_in entries)

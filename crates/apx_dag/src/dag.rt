@@ -5,7 +5,6 @@ ghost use Rattle.std.specs.Str.{bytes_eq};
 ghost use Rattle.apx_pass.specs.Graph as graph;
 ghost use Rattle.apx_pass.specs.Graph.{node_at};
 ghost use Rattle.apx_pass.specs.Order as passing;
-ghost use Rattle.apx_pass.specs.Valid.{IsValid};
 ghost use Rattle.apx_dag.specs.Dag.{nodes_in, key_texts, node_names};
 ghost use Rattle.apx_dag.specs.Graph.{node_by, graph_of, sources_in, Answers};
 ghost use Rattle.apx_dag.specs.Names.{named_again};
@@ -145,8 +144,8 @@ impl Dag {
     /// How many operators there are, at most 16.
     pub fn len(&self) -> u16
         ensures len { result ≡ length self.now }
-        ensures valid { IsValid self.now }
-        ensures graph { IsGraph self.now }
+        ensures few { length self.now ≤ 16 }
+        ensures valid { IsGraph self.now }
     {
         self.nodes.len() as u16
     }

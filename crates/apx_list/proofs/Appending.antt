@@ -1,12 +1,11 @@
 -- The blocks of a window, appended one after the other to a list that has none of its window.
-use Rattle.std.proofs.Common.{◌≡◌, ℕ, zero, suc, ◌+◌, ◌-◌, ◌<◌, ◌≤◌, List, [], ◌∷◌, ◌++◌, length, refl, sym, ap, ◌∙◌, arith, Bool, true, false, cond, eqb, ltb, Option, Some, None, slice_get, get_or, length-append, subst}
-use Rattle.std.specs.Prelude.{IfSome}
+use Rattle.std.proofs.Common.{◌≡◌, ℕ, zero, suc, ◌+◌, ◌<◌, ◌≤◌, List, [], ◌∷◌, ◌++◌, length, refl, ap, ◌∙◌, arith, false, cond, eqb, ltb, Option, None, get_or, length-append, subst}
 use Rattle.std.proofs.lemmas.Bool.{le-ltb, ne_eqb}
 use Rattle.apx_list.specs.declared.plan.CutPlan.{CutPlan}
 use Rattle.apx_list.specs.declared.block.Block.{Block}
 use Rattle.apx_list.specs.Block.{Spells, AllSpell}
 use Rattle.apx_list.specs.Cut.{numbered}
-use Rattle.apx_list.specs.Listed.{Listed, before, IsNext, with_block, next_number}
+use Rattle.apx_list.specs.Listed.{Listed, before, IsNext, with_block}
 use Rattle.apx_list.proofs.Pieces.{length-numbered}
 use Rattle.apx_list.proofs.Kept.{AllSpell-get, slice_get-is, before-append}
 

@@ -1,12 +1,11 @@
 -- What a list keeps of its numbers, when a block is appended or windows are purged.
-use Rattle.std.proofs.Common.{◌≡◌, ℕ, ◌+◌, ◌*◌, ◌-◌, ◌^◌, ◌<◌, ◌≤◌, List, [], ◌∷◌, ◌++◌, length, refl, zero, suc, sym, ap, ◌∙◌, arith, Bool, true, false, cond, ltb, Option, Some, None, slice_get, get_or, append_assoc, length-append, drop, subst, inl, inr}
+use Rattle.std.proofs.Common.{◌≡◌, ℕ, ◌+◌, ◌-◌, ◌^◌, ◌<◌, ◌≤◌, List, [], ◌∷◌, ◌++◌, length, refl, zero, suc, sym, ap, ◌∙◌, arith, true, false, ltb, Some, slice_get, get_or, append_assoc, length-append, drop, subst, inl, inr}
 use Rattle.std.proofs.Math.ListN.{get_or-append}
 use Rattle.std.proofs.Math.Seq.{get_or-append_seam}
 use Rattle.std.specs.Prelude.{IfSome, slice_index}
 use Rattle.std.proofs.lemmas.Bool.{lt-ltb, le-ltb, cases_lt}
 use Rattle.apx_list.specs.declared.plan.CutPlan.{CutPlan}
 use Rattle.apx_list.specs.declared.block.Block.{Block}
-use Rattle.apx_list.specs.Plan.{IsPlan}
 use Rattle.apx_list.specs.Block.{Spells, AllSpell}
 use Rattle.apx_list.specs.Listed.{before, IsWithin, IsKept, AreUpTo, AreAbove}
 

@@ -1,9 +1,9 @@
 -- Messages that are read one after the other, and their tuples.
-use Rattle.std.proofs.Common.{◌≡◌, ℕ, zero, suc, ◌+◌, ◌<◌, ◌≤◌, List, [], ◌∷◌, ◌++◌, length, map, refl, sym, ap, ◌∙◌, arith, Bool, true, false, cond, eqb, append_assoc, length-append, inl, inr, ◌⊎◌}
+use Rattle.std.proofs.Common.{◌≡◌, ℕ, zero, suc, ◌<◌, List, [], ◌∷◌, ◌++◌, length, map, refl, sym, ap, ◌∙◌, arith, Bool, true, false, cond, eqb, append_assoc, length-append, inl, inr}
 use Rattle.std.proofs.lemmas.List.{append-nil}
 use Rattle.std.proofs.lemmas.Bool.{eqb-true}
 use Rattle.apx_tuple.specs.declared.tuple.Tuple.{Tuple}
-use Rattle.apx_window.specs.Identifier.{second_of, counter_of, identifier_of}
+use Rattle.apx_window.specs.Identifier.{second_of}
 use Rattle.apx_wire.specs.declared.message.Message.{Message}
 use Rattle.apx_wire.specs.declared.message.Message.TheVariants.{Payload, Begin, End, Checkpoint, Reset, EndOfStream}
 use Rattle.apx_wire.specs.Spelling.{IsMessage, spelling, spellings}
@@ -12,7 +12,7 @@ use Rattle.apx_list.specs.declared.plan.CutPlan.{CutPlan}
 use Rattle.apx_list.specs.declared.block.Block.{Block}
 use Rattle.apx_list.specs.Messages.{opening, closing, reset, checkpoint, stop, id_of}
 use Rattle.apx_list.specs.Block.{AreMessages, AreSome, Spells, block_messages}
-use Rattle.apx_list.specs.Tuples.{tuples_of, Begins, IsLeft, IsSpelled}
+use Rattle.apx_list.specs.Tuples.{tuples_of, Begins, IsLeft}
 
 -- bytes that are left begin with a message
 pub begins : (rest : List ℕ) (left : List Message) → AreMessages left → rest ≡ spellings left → 0 < length rest → Begins rest

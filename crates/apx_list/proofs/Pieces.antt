@@ -1,5 +1,5 @@
 -- Pieces and their numbers, and how many pieces a window has.
-use Rattle.std.proofs.Common.{◌≡◌, ℕ, ◌+◌, ◌*◌, ◌^◌, ◌<◌, ◌≤◌, List, [], ◌∷◌, ◌++◌, length, map, refl, sym, ap, ◌∙◌, arith, Bool, true, false, cond, eqb, leb, append_assoc, length-append, add_assoc, Result, Ok, Err}
+use Rattle.std.proofs.Common.{◌≡◌, ℕ, ◌+◌, ◌*◌, ◌^◌, ◌<◌, ◌≤◌, List, [], ◌∷◌, ◌++◌, length, map, refl, sym, ap, ◌∙◌, arith, Bool, true, false, cond, eqb, leb, append_assoc, length-append, Result, Ok, Err}
 use Rattle.std.specs.Prelude.{OnOk, IfOk}
 use Rattle.std.proofs.lemmas.List.{map-append, append-nil, length-map}
 use Rattle.apx_tuple.specs.declared.tuple.Tuple.{Tuple}
@@ -7,7 +7,7 @@ use Rattle.apx_tuple.specs.Size.{size_by}
 use Rattle.apx_tuple.specs.Tuple.{IsBag, tuple_key}
 use Rattle.apx_window.specs.Identifier.{identifier_of}
 use Rattle.apx_wire.specs.declared.message.Message.{Message}
-use Rattle.apx_wire.specs.declared.message.Message.TheVariants.{Payload, Begin, End, Checkpoint, Reset, EndOfStream}
+use Rattle.apx_wire.specs.declared.message.Message.TheVariants.{Payload, Begin, End}
 use Rattle.apx_wire.specs.Spelling.{spelling}
 use Rattle.apx_list.specs.declared.plan.CutPlan.{CutPlan}
 use Rattle.apx_list.specs.declared.block.Block.{Block}

@@ -1,9 +1,8 @@
 -- The blocks of a cut spell what they say.
-use Rattle.std.proofs.Common.{◌≡◌, ℕ, zero, suc, ◌+◌, ◌-◌, ◌*◌, ◌%◌, ◌/◌, ◌^◌, ◌<◌, ◌≤◌, List, [], ◌∷◌, ◌++◌, length, map, refl, sym, ap, subst, ◌∙◌, arith, Bool, true, false, cond, eqb, leb, Option, Some, slice_get, append_assoc, length-append, inl, inr}
+use Rattle.std.proofs.Common.{◌≡◌, ℕ, ◌+◌, ◌-◌, ◌^◌, ◌<◌, ◌≤◌, List, [], ◌∷◌, ◌++◌, length, map, refl, sym, ap, subst, ◌∙◌, arith, Bool, true, false, cond, eqb, leb, Option, Some, slice_get, append_assoc, length-append, inl, inr}
 use Rattle.std.proofs.lemmas.List.{map-append, append-nil}
 use Rattle.std.proofs.lemmas.Bool.{le-leb, eqb-true, ne_eqb}
 use Rattle.std.proofs.Math.Seq.{get_or-append_seam}
-use Rattle.std.specs.Ordering.{is_gt}
 use Rattle.apx_order.specs.Sorted.{IsAscending, IsFloor}
 use Rattle.apx_tuple.specs.declared.tuple.Tuple.{Tuple}
 use Rattle.apx_tuple.specs.Tuple.{tuple_order}
@@ -104,8 +103,8 @@ spells plan window count index piece tuples ends done rest split marked is = rec
   ascends = is.ascends;
   closes = rw split (AreSome-more ends done rest is.closes);
   last = λ at_end.
-    let all : closing plan window ≡ done = split ∙ rw (marked at_end) (append-nil done) in
-    is.last ∙ ap last_of (sym all);
+      let all : closing plan window ≡ done = split ∙ rw (marked at_end) (append-nil done) in
+      is.last ∙ ap last_of (sym all);
   some = is.some;
   whole = is.whole;
   bytes = is.bytes;
@@ -152,10 +151,11 @@ in_closing plan window size count (m ∷ rest) index piece tuples ends done spli
     let next : closing plan window ≡ (done ++ m ∷ []) ++ rest = split ∙ sym (append_assoc done (m ∷ []) rest) in
     let behind = pieces_from size (spelling m) (map spelling rest) in
     choose (leb (length piece + length (spelling m)) size) (NumberedSpell plan window count index) (pieces_from size (piece ++ spelling m) (map spelling rest)) (piece ∷ behind)
-      (in_closing plan window size count rest index (piece ++ spelling m) tuples (ends ++ m ∷ []) (done ++ m ∷ []) next whole.1 (joins plan window index piece tuples ends done m whole.0 is))
-      (λ counted. (
-        spells plan window count index piece tuples ends done (m ∷ rest) split (not_last _ count index behind (pieces_some size (spelling m) (map spelling rest)) (omega (arith, counted))) is,
-        in_closing plan window size count rest (index + 1) (spelling m) [] (m ∷ []) (done ++ m ∷ []) next whole.1 (opens plan window index done m whole.0) (omega (arith, counted))))
+    (in_closing plan window size count rest index (piece ++ spelling m) tuples (ends ++ m ∷ []) (done ++ m ∷ []) next whole.1 (joins plan window index piece tuples ends done m whole.0 is))
+    (λ counted. (
+      spells plan window count index piece tuples ends done (m ∷ rest) split (not_last _ count index behind (pieces_some size (spelling m) (map spelling rest)) (omega (arith, counted))) is,
+      in_closing plan window size count rest (index + 1) (spelling m) [] (m ∷ []) (done ++ m ∷ []) next whole.1 (opens plan window index done m whole.0) (omega (arith, counted)),
+    ))
 
 -- a current piece whose last message opens the window or is a tuple, with the tuples that come after it
 record IsFront (plan : CutPlan) (window index : ℕ) (piece : List ℕ) (tuples left : List Tuple) : Type 0 where
@@ -202,10 +202,11 @@ in_tuples plan window size count [] index piece tuples fit closes is =
 in_tuples plan window size count (t ∷ left) index piece tuples fit closes is =
     let behind = pieces_from size (spelling (Payload t)) (map spelling (map Payload left ++ closing plan window)) in
     choose (leb (length piece + length (spelling (Payload t))) size) (NumberedSpell plan window count index) (pieces_from size (piece ++ spelling (Payload t)) (map spelling (map Payload left ++ closing plan window))) (piece ∷ behind)
-      (in_tuples plan window size count left index (piece ++ spelling (Payload t)) (tuples ++ t ∷ []) fit.1 closes (tuple_joins plan window index piece tuples t left fit.0 is))
-      (λ counted. (
-        spells plan window count index piece tuples [] [] (closing plan window) refl (not_last _ count index behind (pieces_some size (spelling (Payload t)) (map spelling (map Payload left ++ closing plan window))) (omega (arith, counted))) (as_piece plan window index piece tuples (t ∷ left) is),
-        in_tuples plan window size count left (index + 1) (spelling (Payload t)) (t ∷ []) fit.1 closes (tuple_opens plan window index piece tuples t left fit.0 is) (omega (arith, counted))))
+    (in_tuples plan window size count left index (piece ++ spelling (Payload t)) (tuples ++ t ∷ []) fit.1 closes (tuple_joins plan window index piece tuples t left fit.0 is))
+    (λ counted. (
+      spells plan window count index piece tuples [] [] (closing plan window) refl (not_last _ count index behind (pieces_some size (spelling (Payload t)) (map spelling (map Payload left ++ closing plan window))) (omega (arith, counted))) (as_piece plan window index piece tuples (t ∷ left) is),
+      in_tuples plan window size count left (index + 1) (spelling (Payload t)) (t ∷ []) fit.1 closes (tuple_opens plan window index piece tuples t left fit.0 is) (omega (arith, counted)),
+    ))
 
 -- ---- the whole window
 

@@ -1,6 +1,5 @@
 -- When bytes spell a block of this window, index and last mark.
-use Rattle.std.specs.Prelude.{◌≡◌, ℕ, ◌-◌, ◌<◌, List, [], ◌∷◌, ◌++◌, length, map, true, slice_get, ◌==◌, if◌then◌else◌, ◌⊎◌}
-use Rattle.std.specs.List.{flat_map}
+use Rattle.std.specs.Prelude.{◌≡◌, ◌-◌, ◌<◌, List, [], ◌∷◌, ◌++◌, length, map, true, slice_get, ◌==◌, if◌then◌else◌, ◌⊎◌}
 use Rattle.apx_order.specs.Sorted.{IsAscending}
 use Rattle.apx_tuple.specs.declared.tuple.Tuple.{Tuple}
 use Rattle.apx_tuple.specs.Tuple.{tuple_order}

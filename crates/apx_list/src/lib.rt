@@ -11,7 +11,6 @@ mod block;
 mod cutting;
 mod list;
 mod plan;
-mod tuples;
-
 #[cfg(test)]
 mod tests;
+mod tuples;

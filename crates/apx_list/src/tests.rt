@@ -8,6 +8,7 @@ use super::*;
 use apx_device::MemorySpool;
 use apx_tuple::{Bag, Key, Tuple};
 use std::alloc::{AllocError, Global};
+use std::process::Abort;
 use std::test::Fail;
 
 const PLAN: CutPlan = CutPlan {
@@ -52,14 +53,23 @@ fn a_window_is_cut_into_four_blocks(rt: HostRuntime) -> Result<(), Fail> {
     Ok(())
 }
 
+// The tuples of blocks that spell what they say.
+fn all_tuples(alloc: Global, plan: CutPlan, blocks: &[Block]) -> Result<Vec<Tuple>, AllocError>
+    requires { AllSpell plan blocks.now }
+{
+    let mut tuples = Vec::new(alloc);
+    for block in blocks {
+        payloads(alloc, block, &mut tuples)?;
+    }
+    Ok(tuples)
+}
+
 #[test]
 fn the_blocks_give_their_tuples_back(rt: HostRuntime) -> Result<(), Fail> {
     let alloc = rt.alloc();
     let bag = long_keys(alloc)?;
-    let mut tuples = Vec::new(alloc);
-    for block in &cut(alloc, &PLAN, 1, &bag)? {
-        payloads(alloc, block, &mut tuples)?;
-    }
+    let blocks = cut(alloc, &PLAN, 1, &bag)?;
+    let tuples = all_tuples(alloc, PLAN, &blocks)?;
     assert!(rt; tuples.as_slice() == bag.tuples());
     Ok(())
 }
@@ -82,4 +92,42 @@ fn filled(
         list.append(block)?;
     }
     Ok(list)
+}
+
+fn expect_block(rt: &impl Abort, read: Read, index: u32, len: usize) {
+    match read {
+        Read::Block(block) => assert!(rt; block.index == index && block.bytes.len() == len),
+        Read::NotYet => assert!(rt; false, "block {index} isn't there"),
+    }
+}
+
+#[test]
+fn a_list_gives_its_blocks_until_they_are_purged(rt: HostRuntime) -> Result<(), Fail> {
+    let alloc = rt.alloc();
+    let blocks = cut(alloc, &PLAN, 1, &long_keys(alloc)?)?;
+    assert_eq!(rt; blocks.len(), 4);
+    let mut list = filled(alloc, PLAN, blocks)?;
+    assert_eq!(rt; list.start(1), Some(0));
+    expect_block(&rt, list.read(0)?, 0, 14);
+    expect_block(&rt, list.read(3)?, 3, 9);
+    assert!(rt; matches!(list.read(4)?, Read::NotYet));
+    list.purge(1);
+    assert_eq!(rt; list.start(1), None);
+    assert_eq!(rt; list.start(2), Some(4));
+    assert_eq!(rt; list.start(3), None);
+    assert!(rt; matches!(list.read(4)?, Read::NotYet));
+    Ok(())
+}
+
+#[test]
+fn a_shared_block_is_equal(rt: HostRuntime) -> Result<(), Fail> {
+    let alloc = rt.alloc();
+    let blocks = cut(alloc, &PLAN, 2, &Bag::new(alloc))?;
+    assert_eq!(rt; blocks.len(), 1);
+    let shared = blocks[0].share()?;
+    assert!(rt; shared.last && shared.index == 0 && shared.window == 2);
+    // Begin, End and EndOfStream of the run's last window
+    assert_eq!(rt; shared.bytes.len(), 19);
+    assert!(rt; shared.bytes == blocks[0].bytes);
+    Ok(())
 }

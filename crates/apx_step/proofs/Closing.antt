@@ -1,12 +1,11 @@
 -- What a walk makes of a window is what the definition of a step says.
-use Rattle.std.proofs.Common.{◌≡◌, ℕ, ℤ, ◌+◌, ◌≤◌, ◌<◌, zero, suc, Bool, true, false, cond, List, [], ◌∷◌, ◌++◌, length, map, refl, sym, ap, subst, ◌∙◌, arith, pos, unwrap_or, ◌⊎◌, inl, inr, Option, Some, None}
-use Rattle.std.specs.declared.cmp.Ordering.{Ordering}
-use Rattle.std.specs.Ordering.{is_eq, is_gt}
+use Rattle.std.proofs.Common.{◌≡◌, ℕ, ℤ, zero, suc, Bool, true, false, cond, List, [], ◌∷◌, ◌++◌, map, refl, sym, ap, subst, ◌∙◌, arith, pos, unwrap_or, ◌⊎◌, inl, inr, Option, Some, None}
+use Rattle.std.specs.Ordering.{is_eq}
 use Rattle.std.specs.Option.{is_some}
 use Rattle.std.specs.List.{flat_map}
 use Rattle.std.specs.List.Sorted.{IsStrictlySortedBy}
 use Rattle.std.specs.Map.{keys_of}
-use Rattle.apx_order.specs.Sorted.{times, each_once, sorted, with_member}
+use Rattle.apx_order.specs.Sorted.{times, each_once}
 use Rattle.apx_order.proofs.Sorting.{times-append}
 use Rattle.apx_order.proofs.Once.{each_once-times, each_once-strict, each_once-quiet}
 use Rattle.apx_tuple.specs.declared.kind.Kind.{Kind}
@@ -14,13 +13,13 @@ use Rattle.apx_tuple.specs.declared.kind.Kind.TheVariants.{Tumble, Top}
 use Rattle.apx_tuple.specs.declared.tuple.Tuple.{Tuple}
 use Rattle.apx_tuple.specs.Size.{size_by, IsLarge}
 use Rattle.apx_tuple.specs.State.{Pair, pair_key, value_at}
-use Rattle.apx_tuple.specs.Tuple.{key_order, tuple_key, tuple_order, bag_of}
+use Rattle.apx_tuple.specs.Tuple.{key_order, tuple_key, bag_of}
 use Rattle.apx_tuple.proofs.Orders.{key_order-exact}
 use Rattle.apx_tuple.proofs.Sizes.{size_by-bag_of}
 use Rattle.apx_rules.specs.Rule.{Outcome, rule, tuples_of}
-use Rattle.apx_rules.specs.Step.{Stepped, step, keyed_step, step_keys, outcome_at, entries_at, values_of}
+use Rattle.apx_rules.specs.Step.{step, keyed_step, step_keys, entries_at, values_of}
 use Rattle.apx_rules.proofs.Pairs.{same_key, value_at-with_entry, value_at-elsewhere, value_at-among, value_at-none, entries_at-ascends, same-pairs}
-use Rattle.apx_step.specs.Walk.{values, keys_came, put, put_all, walked, told_of, open_rule, open_outcome, keeps, start_of, closes, pair_tuple}
+use Rattle.apx_step.specs.Walk.{keys_came, put, put_all, walked, told_of, open_rule, open_outcome, keeps, start_of, closes, pair_tuple}
 use Rattle.apx_step.proofs.Groups.{keys, values_of-none}
 use Rattle.apx_step.proofs.Laws.{rule-open, rule-kept, rule-quiet, rule-blind, rule-empty, rule-stays}
 use Rattle.apx_step.proofs.Walks.{put-other, put-ascends}

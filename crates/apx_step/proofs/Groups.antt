@@ -1,18 +1,18 @@
 -- The tuples of the least key, and those after them.
-use Rattle.std.proofs.Common.{◌≡◌, ℕ, ℤ, ◌+◌, ◌≤◌, ◌<◌, Bool, true, false, cond, List, [], ◌∷◌, ◌++◌, length, map, refl, sym, ap, subst, ◌∙◌, arith, Option, Some, None}
+use Rattle.std.proofs.Common.{◌≡◌, ℕ, ◌+◌, ◌≤◌, ◌<◌, Bool, true, false, cond, List, [], ◌∷◌, ◌++◌, length, map, refl, sym, ap, subst, ◌∙◌, arith, Some}
 use Rattle.std.specs.declared.cmp.Ordering.{Ordering}
 use Rattle.std.specs.declared.cmp.Ordering.TheVariants.{Less, Equal, Greater}
-use Rattle.std.specs.Ordering.{is_gt, is_eq, is_lt}
+use Rattle.std.specs.Ordering.{is_gt, is_eq}
 use Rattle.std.specs.Cmp.{tied_itself}
 use Rattle.std.specs.List.{filter}
-use Rattle.apx_order.specs.Sorted.{times, each_once, IsFloor, IsAscending}
+use Rattle.apx_order.specs.Sorted.{times, IsFloor, IsAscending}
 use Rattle.apx_order.proofs.Sorting.{times-less, floor-down, turned, times-append}
 use Rattle.apx_order.proofs.Once.{each_once-first}
 use Rattle.apx_tuple.specs.declared.tuple.Tuple.{Tuple}
 use Rattle.apx_tuple.specs.Tuple.{key_order, tuple_key, tuple_order}
 use Rattle.apx_tuple.proofs.Orders.{key_order-exact}
 use Rattle.apx_rules.specs.Step.{values_of}
-use Rattle.apx_rules.proofs.Pairs.{same_key, alike}
+use Rattle.apx_rules.proofs.Pairs.{same_key}
 use Rattle.apx_step.specs.Walk.{values, keys_came, first_key, group_of, past_group}
 
 -- the keys of some tuples

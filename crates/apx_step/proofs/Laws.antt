@@ -1,10 +1,10 @@
 -- What the rules have in common: a key that doesn't come keeps its entry and tells nothing.
-use Rattle.std.proofs.Common.{◌≡◌, ℕ, ℤ, pos, Bool, true, false, cond, List, [], ◌∷◌, map, refl, sym, ap, ◌∙◌, Option, Some, None, unwrap_or, arith}
+use Rattle.std.proofs.Common.{◌≡◌, ℕ, ℤ, true, false, List, [], ◌∷◌, refl, sym, Option, Some, None, arith}
 use Rattle.std.proofs.lemmas.Bool.Decides.{nat_tests}
 use Rattle.std.specs.Int.{int_max}
 use Rattle.apx_tuple.specs.declared.kind.Kind.{Kind}
 use Rattle.apx_tuple.specs.declared.kind.Kind.TheVariants.{Keep, Scale, Words, Prefix, Count, Sum, Peak, First, Tumble, Match, Enrich, Top}
-use Rattle.apx_rules.specs.Rule.{Outcome, rule, greatest, came, tuples_of, with_entry_added}
+use Rattle.apx_rules.specs.Rule.{rule, greatest, came}
 use Rattle.apx_step.specs.Walk.{open_rule, keeps, closes}
 
 -- at a window that ends no sum

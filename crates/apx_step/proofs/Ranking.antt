@@ -1,5 +1,5 @@
 -- The tuples that rank first.
-use Rattle.std.proofs.Common.{◌≡◌, ℕ, List, [], map, take, refl, sym, ap, ◌∙◌}
+use Rattle.std.proofs.Common.{◌≡◌, ℕ, List, [], take, sym, ap, ◌∙◌}
 use Rattle.std.specs.declared.cmp.Ordering.TheVariants.{Equal}
 use Rattle.std.specs.Ordering.{int_cmp}
 use Rattle.std.proofs.lemmas.Cmp.{int_ranked}
@@ -11,7 +11,7 @@ use Rattle.apx_tuple.specs.declared.tuple.Tuple.{Tuple}
 use Rattle.apx_tuple.specs.State.{Pair}
 use Rattle.apx_tuple.specs.Tuple.{key_order, bag_of}
 use Rattle.apx_tuple.proofs.Orders.{both-equal, key_order-tight}
-use Rattle.apx_rules.specs.Step.{Stepped, rank_order, top_of, step}
+use Rattle.apx_rules.specs.Step.{rank_order, top_of, step}
 use Rattle.apx_step.specs.declared.top.Ranked.{Ranked}
 use Rattle.apx_step.specs.Places.{tuples_ranked}
 use Rattle.apx_step.specs.Ranks.{rank_order-total}

@@ -1,5 +1,5 @@
 -- A walk over the keys that came, key by key.
-use Rattle.std.proofs.Common.{◌≡◌, ℕ, ℤ, ◌+◌, ◌≤◌, ◌<◌, Bool, true, false, cond, List, [], ◌∷◌, ◌++◌, length, map, refl, sym, ap, subst, ◌∙◌, arith, append-nil, append_assoc, int_eq, Option, Some, None}
+use Rattle.std.proofs.Common.{◌≡◌, ℕ, ℤ, ◌+◌, ◌≤◌, ◌<◌, Bool, true, false, cond, List, [], ◌∷◌, ◌++◌, length, refl, sym, ap, subst, ◌∙◌, arith, append-nil, append_assoc, int_eq, Option, Some, None}
 use Rattle.std.specs.declared.cmp.Ordering.{Ordering}
 use Rattle.std.specs.declared.cmp.Ordering.TheVariants.{Less, Equal, Greater}
 use Rattle.std.specs.Ordering.{is_eq, int_cmp}
@@ -13,7 +13,7 @@ use Rattle.apx_order.proofs.Sorting.{times-append}
 use Rattle.apx_tuple.specs.declared.kind.Kind.{Kind}
 use Rattle.apx_tuple.specs.declared.tuple.Tuple.{Tuple}
 use Rattle.apx_tuple.specs.Size.{size_by, IsLarge}
-use Rattle.apx_tuple.specs.State.{Pair, pair_key, value_at, with_entry}
+use Rattle.apx_tuple.specs.State.{Pair, pair_key, value_at}
 use Rattle.apx_tuple.specs.Tuple.{key_order}
 use Rattle.apx_tuple.proofs.Sizes.{size_by-with_entry-le}
 use Rattle.apx_rules.specs.Rule.{Outcome}

@@ -1,7 +1,7 @@
-use Rattle.std.proofs.Common.{◌≡◌, map, ◌∙◌, sym, ap, arith, length, Vec, ℕ, List}
+use Rattle.std.proofs.Common.{◌≡◌, map, ap, arith, length, Vec, ℕ, List}
 use Rattle.std.specs.declared.alloc.Global.{Global}
 use Rattle.std.proofs.lemmas.List.{length-map}
-use Rattle.apx_list.specs.Cut.{blocks_of, pieces_of, numbered}
+use Rattle.apx_list.specs.Cut.{blocks_of, pieces_of}
 use Rattle.apx_list.proofs.Pieces.{pieces_of-fits, if_ok}
 use Rattle.apx_list.proofs.Spelled.{blocks_spell}
 use Rattle.apx_list.specs.declared.block.Block.{Block}

@@ -1,4 +1,4 @@
-use Rattle.std.proofs.Common.{◌≡◌, ℕ, ◌+◌, ◌<◌, List, length, map, Vec, ap, sym, ◌∙◌, arith, rules, eqb}
+use Rattle.std.proofs.Common.{ℕ, ◌+◌, List, length, map, Vec, ap, arith, rules, eqb}
 use Rattle.std.specs.declared.alloc.Global.{Global}
 use Rattle.std.proofs.lemmas.List.{length-map}
 use Rattle.std.proofs.lemmas.Iterator.Adapters.{YieldsList-from_vec}

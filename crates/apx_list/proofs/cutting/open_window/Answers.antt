@@ -1,7 +1,7 @@
 use Rattle.std.proofs.Common.{[], ◌∷◌}
 use Rattle.apx_wire.specs.declared.message.Message.TheVariants.{Begin}
 use Rattle.apx_list.specs.Cutter.{Adds}
-use Rattle.apx_list.specs.Messages.{reset, opening}
+use Rattle.apx_list.specs.Messages.{reset}
 use Rattle.apx_list.proofs.Pieces.{Adds_both, on_ok}
 use Rattle.apx_list.proofs.cutting.open_window.Goals as goal
 

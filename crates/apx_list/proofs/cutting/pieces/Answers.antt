@@ -1,6 +1,3 @@
-use Rattle.std.proofs.Common.{◌≡◌, map, Vec, ℕ, List, ◌∙◌, [], Result, Ok, Err}
-use Rattle.std.specs.declared.alloc.Global.{Global}
-use Rattle.std.specs.Prelude.{IfOk}
 use Rattle.apx_list.proofs.Pieces.{whole_window}
 use Rattle.apx_list.proofs.cutting.pieces.Goals as goal
 

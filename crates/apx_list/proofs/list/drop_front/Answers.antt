@@ -1,4 +1,4 @@
-use Rattle.std.proofs.Common.{◌≡◌, ◌<◌, length, drop, get_or, rules}
+use Rattle.std.proofs.Common.{◌≡◌, ◌<◌, length, get_or, rules}
 use Rattle.apx_list.proofs.Kept.{more_gone}
 use Rattle.apx_list.proofs.list.drop_front.Goals as goal
 

@@ -1,7 +1,7 @@
-use Rattle.std.proofs.Common.{refl, rules, length, ◌<◌, get_or, ◌≡◌}
+use Rattle.std.proofs.Common.{refl, rules, length}
 use Rattle.std.proofs.lemmas.Iterator.Adapters.{YieldsList-from_vec}
 use Rattle.std.proofs.lemmas.Iterator.Consumers.{YieldsList-turn}
-use Rattle.apx_list.proofs.Appending.{IsNumbered, fills_next, fills_more, of_window, AllSpell-at}
+use Rattle.apx_list.proofs.Appending.{fills_next, fills_more, of_window, AllSpell-at}
 use Rattle.apx_list.proofs.tests.filled.Goals as goal
 
 pub append-requires-after_bounds : goal.append-requires-after_bounds

@@ -1,4 +1,4 @@
-use Rattle.std.proofs.Common.{◌≡◌, Some, arith, rules, to_z, of_z, w64, ap, sym, ◌∙◌}
+use Rattle.std.proofs.Common.{arith, rules, w64}
 use mir.Val.{SFits}
 use Rattle.std.proofs.lemmas.Int.{to_z-of_z}
 use Rattle.apx_step.proofs.Fronts.{greatest-more}

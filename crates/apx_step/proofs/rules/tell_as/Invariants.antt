@@ -1,5 +1,5 @@
-use Rattle.std.proofs.Common.{◌≡◌, ◌++◌, take, Some}
-use Rattle.apx_rules.specs.Rule.{keep_rule, scale_rule, with_entry_added, tuples_of}
+use Rattle.std.proofs.Common.{◌≡◌, ◌++◌, take}
+use Rattle.apx_rules.specs.Rule.{tuples_of}
 use Rattle.apx_step.specs.Walk.{values}
 use Rattle.apx_step.proofs.rules.tell_as.Given as goal
 

@@ -1,4 +1,4 @@
-use Rattle.std.proofs.Common.{◌≡◌, arith, rules, to_z, of_z, w64, Bool, ℤ, ◌&&◌, int_le, sym, ◌∙◌}
+use Rattle.std.proofs.Common.{◌≡◌, arith, rules, to_z, of_z, w64, Bool, ℤ, ◌&&◌, int_le, sym}
 use mir.Val.{SFits}
 use Rattle.std.proofs.lemmas.Grind.{common_steps}
 use Rattle.std.proofs.lemmas.Int.{to_z-of_z}

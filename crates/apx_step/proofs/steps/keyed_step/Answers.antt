@@ -1,6 +1,6 @@
-use Rattle.std.proofs.Common.{◌≡◌, inr, sym, ◌∙◌}
+use Rattle.std.proofs.Common.{inr, sym, ◌∙◌}
 use Rattle.std.proofs.lemmas.Result.{err_from_is_err_and}
-use Rattle.apx_step.proofs.Closing.{walk-large, end-large, end-ok, open-large, open-ok, start-ascends}
+use Rattle.apx_step.proofs.Closing.{walk-large, end-large, end-ok, open-large, open-ok}
 use Rattle.apx_step.proofs.steps.keyed_step.Goals as goal
 
 pub returns-in_err-kept-clause-large : goal.returns-in_err-kept-clause-large

@@ -1,4 +1,4 @@
-use Rattle.std.proofs.Common.{◌≡◌, sym, ◌∙◌}
+use Rattle.std.proofs.Common.{sym, ◌∙◌}
 use Rattle.apx_step.proofs.Walks.{put-same, same-entry}
 use Rattle.apx_step.proofs.walk.keep_entry.Goals as goal
 

@@ -1,4 +1,4 @@
-use Rattle.std.proofs.Common.{◌≡◌, ◌++◌, ◌+◌, ◌≤◌, take, drop, length}
+use Rattle.std.proofs.Common.{◌≡◌, ◌++◌, take, drop}
 use Rattle.apx_step.specs.Walk.{group_of, past_group}
 use Rattle.apx_step.proofs.walk.split_group.Given as goal
 

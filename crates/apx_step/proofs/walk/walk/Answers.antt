@@ -1,6 +1,5 @@
-use Rattle.std.proofs.Common.{◌≡◌, ◌<◌, ◌+◌, length, arith, ap, subst, sym, ◌∙◌, Some, None, Err, List, []}
+use Rattle.std.proofs.Common.{length, arith, ap, subst, sym, List}
 use Rattle.std.proofs.lemmas.Result.{err_from_is_err_and}
-use Rattle.apx_tuple.specs.declared.refusal.Short.TheVariants.{Large}
 use Rattle.apx_tuple.specs.declared.tuple.Tuple.{Tuple}
 use Rattle.apx_step.proofs.Groups.{keys-ascend}
 use Rattle.apx_step.proofs.Walks.{IsWalking, walking-start, walking-next, walking-fewer, walking-large, walking-end}

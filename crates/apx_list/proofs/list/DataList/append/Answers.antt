@@ -1,5 +1,4 @@
-use Rattle.std.proofs.Common.{◌≡◌, ℕ, ◌+◌, ◌<◌, ◌^◌, arith, length, rules}
-use Rattle.apx_list.specs.Listed.{IsNext, before}
+use Rattle.std.proofs.Common.{◌≡◌, ◌<◌, ◌^◌, arith, length, rules}
 use Rattle.apx_list.proofs.Kept.{kept_in_window, kept_at_end}
 use Rattle.apx_list.proofs.list.DataList.append.Goals as goal
 

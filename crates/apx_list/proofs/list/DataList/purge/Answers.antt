@@ -1,4 +1,4 @@
-use Rattle.std.proofs.Common.{refl, arith, ◌+◌, ◌≤◌}
+use Rattle.std.proofs.Common.{refl, arith, ◌+◌}
 use Rattle.apx_list.proofs.Kept.{kept_purged, within_rest, AreAbove-within}
 use Rattle.apx_list.proofs.list.DataList.purge.Goals as goal
 

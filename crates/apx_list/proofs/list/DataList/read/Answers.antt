@@ -1,4 +1,4 @@
-use Rattle.std.proofs.Common.{◌≡◌, ◌<◌, ◌-◌, Some, slice_get, get_or, length, arith, rules}
+use Rattle.std.proofs.Common.{◌≡◌, ◌<◌, ◌-◌, get_or, length, arith, rules}
 use Rattle.apx_list.proofs.Kept.{AllSpell-get, slice_get-is}
 use Rattle.apx_list.proofs.list.DataList.read.Goals as goal
 use Rattle.apx_list.proofs.list.DataList.read.Goals.{in-Ok, in-Err}
