@@ -1,0 +1,4 @@
+pub mod Lines
+pub mod Loop
+pub mod Sent
+pub mod Store
