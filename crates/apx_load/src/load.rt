@@ -40,3 +40,17 @@ pub fn inputs<F: Folder>(
 {
     Err(Stop::Memory)
 }
+
+/// How many windows a run has: the most of any input, at most 20,000.
+pub fn window_count(inputs: &[Option<Windows>]) -> u32
+    ensures count { result ≡ windows_of inputs.now }
+    ensures few { result ≤ 20000 }
+{
+    let mut count = 0;
+    for input in inputs {
+        if let Some(windows) = input {
+            count = count.max(windows.count());
+        }
+    }
+    count
+}
