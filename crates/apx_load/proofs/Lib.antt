@@ -1,1 +1,2 @@
 mod Windows
+mod Loading
