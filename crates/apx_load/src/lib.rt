@@ -10,4 +10,6 @@ pub use words::{Action, command};
 mod load;
 mod refusal;
 mod stop;
+#[cfg(test)]
+mod tests;
 mod words;
