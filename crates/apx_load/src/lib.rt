@@ -2,7 +2,7 @@
 //! thing that is refused.
 #![tactic(auto)]
 
-pub use load::{application, inputs};
+pub use load::{application, inputs, window_count};
 pub use refusal::{LineCause, Refusal};
 pub use stop::Stop;
 pub use words::{Action, command};
@@ -10,4 +10,6 @@ pub use words::{Action, command};
 mod load;
 mod refusal;
 mod stop;
+#[cfg(test)]
+mod tests;
 mod words;
