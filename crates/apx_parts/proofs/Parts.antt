@@ -1,10 +1,9 @@
 -- What the parts of an operator make is what the whole makes.
-use Rattle.std.proofs.Common.{◌≡◌, ℕ, ℤ, ◌+◌, ◌-◌, ◌≤◌, ◌<◌, ◌==◌, zero, suc, min, Bool, true, false, cond, List, [], ◌∷◌, ◌++◌, length, map, take, refl, sym, ap, subst, ◌∙◌, arith, Option, Some, None}
+use Rattle.std.proofs.Common.{◌≡◌, ℕ, ℤ, ◌+◌, ◌-◌, ◌≤◌, ◌<◌, ◌==◌, zero, suc, min, Bool, true, false, cond, List, [], ◌∷◌, ◌++◌, map, take, refl, sym, ap, ◌∙◌, arith, Option, Some, None}
 use Rattle.std.specs.declared.cmp.Ordering.{Ordering}
 use Rattle.std.specs.declared.cmp.Ordering.TheVariants.{Less, Equal, Greater}
-use Rattle.std.specs.Ordering.{is_eq, is_lt, is_gt, int_cmp, ordering_then, ordering_reverse}
+use Rattle.std.specs.Ordering.{is_eq, is_lt, is_gt, ordering_reverse}
 use Rattle.std.specs.List.{filter, flat_map}
-use Rattle.std.specs.List.Sorted.{IsStrictlySortedBy}
 use Rattle.std.specs.Map.{keys_of}
 use Rattle.std.proofs.lemmas.Bool.Decides.{nat_tests}
 use Rattle.apx_order.specs.Sorted.{IsExact, times, each_once, sorted, with_member, IsAscending, IsFloor}
@@ -17,8 +16,8 @@ use Rattle.apx_tuple.specs.State.{Pair, value_at}
 use Rattle.apx_tuple.specs.Tuple.{key_order, tuple_key, tuple_order, bag_of}
 use Rattle.apx_tuple.proofs.Orders.{key_order-exact, tuple_order-exact}
 use Rattle.apx_rules.specs.Rule.{Outcome, rule}
-use Rattle.apx_rules.specs.Step.{Stepped, step, keyed_step, step_keys, outcome_at, entries_at, values_of, top_of, rank_order}
-use Rattle.apx_parts.specs.Parts.{cut_bag, cut_state, step_part, of_parts, unify, IsOwner, PartsUnify, PartsKeepCuts}
+use Rattle.apx_rules.specs.Step.{step, keyed_step, step_keys, outcome_at, entries_at, values_of}
+use Rattle.apx_parts.specs.Parts.{cut_bag, cut_state, of_parts, IsOwner, PartsKeepCuts}
 use Rattle.apx_rules.proofs.Pairs.{same_key}
 
 abbrev number : Bool → ℕ

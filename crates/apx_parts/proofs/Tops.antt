@@ -1,24 +1,23 @@
 -- The first k of the parts' first k are the first k of the whole, and cuts put together are the whole.
-use Rattle.std.proofs.Common.{◌≡◌, ℕ, ℤ, ◌+◌, ◌-◌, ◌≤◌, ◌<◌, ◌==◌, zero, suc, min, Bool, true, false, cond, List, [], ◌∷◌, ◌++◌, map, take, refl, sym, ap, ◌∙◌, arith}
+use Rattle.std.proofs.Common.{◌≡◌, ℕ, ℤ, ◌-◌, zero, suc, min, Bool, List, [], ◌∷◌, ◌++◌, take, refl, sym, ap, ◌∙◌, arith}
 use Rattle.std.specs.declared.cmp.Ordering.{Ordering}
 use Rattle.std.specs.declared.cmp.Ordering.TheVariants.{Less, Equal, Greater}
 use Rattle.std.specs.Ordering.{is_eq, is_lt, is_gt, int_cmp, ordering_then}
-use Rattle.std.specs.List.{filter, flat_map, AllByRecursion}
+use Rattle.std.specs.List.{flat_map, AllByRecursion}
 use Rattle.std.specs.List.Sorted.{IsStrictlySortedBy}
 use Rattle.std.specs.Map.{keys_of}
-use Rattle.std.specs.Cmp.{IsTotalOrder, then_total, on_total, back_total, int_cmp_total, tied_itself}
+use Rattle.std.specs.Cmp.{then_total, on_total, back_total, int_cmp_total, tied_itself}
 use Rattle.std.specs.Cmp.Lexicographic.{nat_list_cmp_total}
 use Rattle.std.proofs.lemmas.Cmp.{int_ranked}
-use Rattle.apx_order.specs.Sorted.{IsExact, times, sorted, IsAscending, IsFloor}
+use Rattle.apx_order.specs.Sorted.{IsExact, sorted, IsAscending, IsFloor}
 use Rattle.apx_order.proofs.Sorting.{sorted-ascends, same-by-times}
-use Rattle.apx_tuple.specs.declared.kind.Kind.{Kind}
 use Rattle.apx_tuple.specs.declared.kind.Kind.TheVariants.{Top}
 use Rattle.apx_tuple.specs.declared.tuple.Tuple.{Tuple}
 use Rattle.apx_tuple.specs.State.{Pair}
 use Rattle.apx_tuple.specs.Tuple.{key_order, tuple_key, tuple_order, bag_of}
-use Rattle.apx_tuple.proofs.Orders.{key_order-exact, key_order-tight, tuple_order-exact, both-equal}
-use Rattle.apx_rules.specs.Step.{Stepped, step, keyed_step, top_of, rank_order}
-use Rattle.apx_parts.specs.Parts.{cut_bag, cut_state, step_part, of_parts, unify, pair_order, merge_states, IsOwner, PartsUnify, CutsMerge, SplitsAreCuts}
+use Rattle.apx_tuple.proofs.Orders.{key_order-tight, tuple_order-exact, both-equal}
+use Rattle.apx_rules.specs.Step.{step, top_of, rank_order}
+use Rattle.apx_parts.specs.Parts.{cut_bag, cut_state, of_parts, unify, pair_order, merge_states, PartsUnify, CutsMerge, SplitsAreCuts}
 use Rattle.apx_parts.proofs.Parts.{count, times-count, count-append, count-sorted, count-all-cuts, below, here, take-here, take-below, keyed-rows}
 
 -- ---- the orders by rank and of pairs

@@ -1,13 +1,13 @@
 -- Partitions of an operator: what each part is given, and what their outputs make together.
 --
 -- `own` tells the part that a key belongs to, a number below `n`.
-use Rattle.std.specs.Prelude.{◌≡◌, ℕ, zero, suc, ◌<◌, ◌==◌, List, [], ◌∷◌, ℤ, map}
+use Rattle.std.specs.Prelude.{◌≡◌, ℕ, zero, suc, ◌<◌, ◌==◌, List, [], ◌∷◌}
 use Rattle.std.specs.declared.cmp.Ordering.{Ordering}
 use Rattle.std.specs.Ordering.{int_cmp, ordering_then}
 use Rattle.std.specs.List.{filter, flat_map}
 use Rattle.std.specs.List.Sorted.{IsStrictlySortedBy}
 use Rattle.std.specs.Map.{keys_of}
-use Rattle.apx_order.specs.Sorted.{sorted, IsAscending}
+use Rattle.apx_order.specs.Sorted.{sorted}
 use Rattle.apx_tuple.specs.declared.kind.Kind.{Kind}
 use Rattle.apx_tuple.specs.declared.kind.Kind.TheVariants.{Top}
 use Rattle.apx_tuple.specs.declared.tuple.Tuple.{Tuple}
