@@ -34,10 +34,7 @@ fn copy_rows(alloc: Global, rows: &[Tuple]) -> Result<Vec<Tuple>, AllocError>
 {
     let mut copied = Vec::new(alloc);
     for row in rows {
-        copied.push(Tuple {
-            key: row.key.copy()?,
-            value: row.value,
-        })?;
+        copied.push(row.copy()?)?;
     }
     Ok(copied)
 }

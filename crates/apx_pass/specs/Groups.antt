@@ -1,4 +1,5 @@
 -- The windows of an input operator, and the first line that it refuses. Windows and lines count from 1.
+--     input_of kind n bytes  what an operator reads from the bytes of a file
 --     group input w          the lines of window w: the w-th group of `per_window` lines
 --     groups input           how many windows there are
 --     window_bag input w     the bag of the tuples of window w
@@ -8,6 +9,7 @@ use Rattle.std.specs.Option.{option_map, option_or}
 use Rattle.apx_tuple.specs.declared.kind.InputKind.{InputKind}
 use Rattle.apx_tuple.specs.declared.tuple.Tuple.{Tuple}
 use Rattle.apx_tuple.specs.Tuple.{bag_of}
+use Rattle.apx_pass.specs.Lines.{lines}
 use Rattle.apx_pass.specs.Pairs.{tuple_of}
 
 -- what an input operator reads: how lines become tuples, how many lines make a window, and the lines of its file
@@ -15,6 +17,10 @@ pub record Input : Type 0 where
   pub kind : InputKind
   pub per_window : ℕ
   pub lines : List (List ℕ)
+
+-- what an operator reads from the bytes of a file
+abbrev pub input_of : InputKind → ℕ → List ℕ → Input
+input_of kind per_window bytes = record { kind = kind; per_window = per_window; lines = lines bytes }
 
 -- of the first w times `per_window` lines, those past the windows before; so it is empty past the last window
 unfoldable pub group : Input → ℕ → List (List ℕ)
@@ -45,13 +51,14 @@ cause_of kind per_window number line =
     (cond (nat_lt 1024 (length line)) (Some TooLong)
     (cond (is_some (tuple_of kind line)) None (Some BadPair)))
 
+unfoldable pub refused_at : InputKind → ℕ → ℕ → List ℕ → Option Refused
+refused_at kind per_window number line = option_map (λ cause. record { line = number; cause = cause }) (cause_of kind per_window number line)
+
 -- the first refused one of some lines, which are numbered from `number` on
 unfoldable pub first_refused_from : InputKind → ℕ → ℕ → List (List ℕ) → Option Refused
 first_refused_from kind per_window number [] = None
 first_refused_from kind per_window number (line ∷ lines) =
-    option_or
-    (option_map (λ cause. record { line = number; cause = cause }) (cause_of kind per_window number line))
-    (first_refused_from kind per_window (number + 1) lines)
+    option_or (refused_at kind per_window number line) (first_refused_from kind per_window (number + 1) lines)
 
 unfoldable pub first_refused : Input → Option Refused
 first_refused input = first_refused_from input.kind input.per_window 1 input.lines

@@ -87,7 +87,7 @@ windows_of (Some input ∷ inputs) = max (groups input) (windows_of inputs)
 abbrev pub windows : Job → ℕ
 windows job = windows_of job.inputs
 
-abbrev is_sink : Role → Bool
+abbrev pub is_sink : Role → Bool
 is_sink graph.Sink = true
 is_sink _ = false
 

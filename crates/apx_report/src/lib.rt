@@ -90,3 +90,35 @@ fn append_row(row: &Tuple, into: &mut Vec<u8>) -> Result<(), AllocError>
     into.extend_from_slice(Buffer::new().format(row.value).as_bytes())?;
     into.extend_from_slice(b"\n")
 }
+
+#[cfg(test)]
+mod tests {
+    use super::*;
+    use apx_tuple::Key;
+    use std::alloc::Global;
+    use std::test::Fail;
+
+    fn row(alloc: Global, key: &str, value: i64) -> Result<Tuple, Fail> {
+        Ok(Tuple {
+            key: Key::of(alloc, key.as_bytes())?,
+            value,
+        })
+    }
+
+    #[test]
+    fn a_window_shows_its_rows(rt: HostRuntime) -> Result<(), Fail> {
+        let alloc = rt.alloc();
+        let mut rows = Vec::new(alloc);
+        rows.push(row(alloc, "a", 2)?)?;
+        rows.push(row(alloc, "b", -1)?)?;
+        let mut text = Vec::new(alloc);
+        window_text(1_000_000_000, 1, &rows, &mut text)?;
+        window_text(1_000_000_000, 16001, &[], &mut text)?;
+        let shown = std::str::from_utf8(&text)?;
+        assert_eq!(rt;
+            shown,
+            "window 1 4294967296000000000 2\na\t2\nb\t-1\nwindow 16001 4295001655738368000 0\n"
+        );
+        Ok(())
+    }
+}

@@ -1,1 +1,5 @@
+pub mod Fields
+pub mod Messages
+pub mod OneReading
 pub mod Payloads
+pub mod Streams

@@ -3,13 +3,13 @@
 -- nothing wrong with what has come of it; or what is wrong, as soon as it shows.
 use Rattle.std.specs.Prelude.{◌≡◌, ℕ, ◌+◌, List, [], ◌∷◌, length, take, drop, Option, Some, None, Result, Ok, Err, nat_lt, ◌==◌, not, if◌then◌else◌}
 use Rattle.std.specs.Option.{option_map}
-use Rattle.std.specs.Int.{w16, w32, w64, from_be_bytes, cast_signed}
+use Rattle.std.specs.Int.{Width, byte_len, w16, w32, w64, from_be_bytes, cast_signed}
 use Rattle.apx_codec.specs.KeyNumber.{hash_of}
 use Rattle.apx_tuple.specs.declared.tuple.Tuple.{Tuple}
 use Rattle.apx_wire.specs.declared.message.Message.{Message}
 use Rattle.apx_wire.specs.declared.message.Message.TheVariants.{Payload, Begin, End, Checkpoint, Reset, EndOfStream}
 use Rattle.apx_wire.specs.declared.fault.WireFault.{WireFault}
-use Rattle.apx_wire.specs.declared.fault.WireFault.TheVariants.{BadType, BadKey, BadNumber, Memory}
+use Rattle.apx_wire.specs.declared.fault.WireFault.TheVariants.{BadType, BadKey, BadNumber, BadOrder, Memory}
 
 -- the fields of a payload behind its type byte
 abbrev pub number_in : List ℕ → ℕ
@@ -37,29 +37,30 @@ payload_judged place bytes =
     if nat_lt (length bytes) (14 + key_length_in bytes) then Ok None else
     Ok (Some (Payload (tuple_in bytes), 15 + key_length_in bytes))
 
--- a window's identifier behind the type byte
-abbrev pub id_in : List ℕ → Option ℕ
-id_in bytes = if nat_lt (length bytes) 8 then None else Some (from_be_bytes w64 (take 8 bytes))
-
-abbrev pub second_in : List ℕ → Option ℕ
-second_in bytes = if nat_lt (length bytes) 4 then None else Some (from_be_bytes w32 (take 4 bytes))
+-- a number behind the type byte, once it is there
+abbrev pub field_in : Width → List ℕ → Option ℕ
+field_in w bytes = if nat_lt (length bytes) (byte_len w) then None else Some (from_be_bytes w (take (byte_len w) bytes))
 
 unfoldable pub judged : ℕ → List ℕ → Result (Option (Message × ℕ)) WireFault
 judged place [] = Ok None
 judged place (kind ∷ bytes) =
     if kind == 1 then payload_judged place bytes else
-    if kind == 2 then Ok (option_map (λ id. (Begin id, 9)) (id_in bytes)) else
-    if kind == 3 then Ok (option_map (λ id. (End id, 9)) (id_in bytes)) else
-    if kind == 4 then Ok (option_map (λ id. (Checkpoint id, 9)) (id_in bytes)) else
-    if kind == 5 then Ok (option_map (λ second. (Reset second, 5)) (second_in bytes)) else
+    if kind == 2 then Ok (option_map (λ id. (Begin id, 9)) (field_in w64 bytes)) else
+    if kind == 3 then Ok (option_map (λ id. (End id, 9)) (field_in w64 bytes)) else
+    if kind == 4 then Ok (option_map (λ id. (Checkpoint id, 9)) (field_in w64 bytes)) else
+    if kind == 5 then Ok (option_map (λ second. (Reset second, 5)) (field_in w32 bytes)) else
     if kind == 6 then Ok (Some (EndOfStream, 1)) else
     Err (BadType place)
 
--- What a reader returned is what the bytes are judged to be, unless memory ran out.
-abbrev pub Fails : {X : Type 0} → WireFault → Result X WireFault → Type 0
-Fails Memory judgement = Unit {0}
-Fails fault judgement = judgement ≡ Err fault
+-- p holds, unless memory ran out
+abbrev pub UnlessMemory : WireFault → Type 0 → Type 0
+UnlessMemory Memory p = Unit {0}
+UnlessMemory (BadType _) p = p
+UnlessMemory (BadKey _) p = p
+UnlessMemory (BadNumber _) p = p
+UnlessMemory (BadOrder _) p = p
 
+-- what a reader returned is what the bytes are judged to be, unless memory ran out
 abbrev pub Gives : {X : Type 0} → Result X WireFault → Result X WireFault → Type 0
 Gives (Ok x) judgement = judgement ≡ Ok x
-Gives (Err fault) judgement = Fails fault judgement
+Gives (Err fault) judgement = UnlessMemory fault (judgement ≡ Err fault)

@@ -1,7 +1,7 @@
 -- Messages in order.
 --     may_follow before m       m may come behind the messages before it
 --     AreInOrder before ms      each of ms is a message that may come behind those before it
-use Rattle.std.specs.Prelude.{◌≡◌, ℕ, ◌+◌, ◌*◌, ◌/◌, ◌%◌, ◌^◌, List, [], ◌∷◌, Option, Some, None, Bool, true, false, not, ◌&&◌, nat_lt, ◌==◌, IsTrue}
+use Rattle.std.specs.Prelude.{ℕ, ◌+◌, ◌/◌, ◌%◌, ◌^◌, List, [], ◌∷◌, Option, Some, None, Bool, true, false, not, ◌&&◌, nat_lt, ◌==◌, IsTrue}
 use Rattle.std.specs.Ordering.{is_gt}
 use Rattle.apx_tuple.specs.declared.tuple.Tuple.{Tuple}
 use Rattle.apx_tuple.specs.Tuple.{tuple_order}

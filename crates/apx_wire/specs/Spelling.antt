@@ -2,7 +2,8 @@
 --     IsMessage m     m fits the fields of its spelling
 --     spelling m      its bytes: a type byte and the fields, numbers big-endian
 --     spellings ms    the bytes of messages, one behind the other
-use Rattle.std.specs.Prelude.{ℕ, ℤ, ◌^◌, ◌<◌, ◌≤◌, List, [], ◌∷◌, ◌++◌, length, slice_index, FitsSigned}
+--     BeginsWith bytes m n     the bytes begin with m, which has n of them
+use Rattle.std.specs.Prelude.{◌≡◌, ℕ, ◌^◌, ◌<◌, ◌≤◌, List, [], ◌∷◌, ◌++◌, length, drop, slice_index, FitsSigned}
 use Rattle.std.specs.List.{flat_map}
 use Rattle.std.specs.Int.{w16, w32, w64, to_be_bytes, cast_unsigned}
 use Rattle.apx_codec.specs.KeyNumber.{hash_of}
@@ -44,3 +45,9 @@ spelling EndOfStream = 6 ∷ []
 
 abbrev pub spellings : List Message → List ℕ
 spellings ms = flat_map spelling ms
+
+-- the bytes begin with the message, which has n of them
+pub record BeginsWith (bytes : List ℕ) (m : Message) (n : ℕ) : Type 0 where
+  pub message : IsMessage m
+  pub whole : bytes ≡ spelling m ++ drop n bytes
+  pub len : n ≡ length (spelling m)

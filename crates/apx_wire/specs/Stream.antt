@@ -1,11 +1,12 @@
 -- A stream of messages that comes in pieces.
 --     Decodes stream handed d       d has taken the stream, and handed out these messages
 --     Rejects stream fault          the fault is the first thing that is wrong with the stream
-use Rattle.std.specs.Prelude.{◌≡◌, ℕ, ◌+◌, List, [], ◌∷◌, ◌++◌, length, Option, Some, None, Result, Ok, Err, false, ◌⊎◌}
+--     Settles old new               a decoder has read the whole messages at the front of its rest
+use Rattle.std.specs.Prelude.{◌≡◌, ℕ, ◌+◌, ◌-◌, List, [], ◌∷◌, ◌++◌, length, Option, Some, None, Ok, Err, false, ◌⊎◌}
 use Rattle.apx_wire.specs.declared.message.Message.{Message}
 use Rattle.apx_wire.specs.declared.fault.WireFault.{WireFault}
-use Rattle.apx_wire.specs.declared.fault.WireFault.TheVariants.{BadOrder, Memory}
-use Rattle.apx_wire.specs.Spelling.{spelling, spellings}
+use Rattle.apx_wire.specs.declared.fault.WireFault.TheVariants.{BadOrder}
+use Rattle.apx_wire.specs.Spelling.{spellings}
 use Rattle.apx_wire.specs.Judging.{judged}
 use Rattle.apx_wire.specs.Order.{Before, beginning, with_messages, may_follow, AreInOrder}
 
@@ -46,7 +47,25 @@ pub record RejectsFrom (before : Before) (place : ℕ) (bytes : List ℕ) (fault
 abbrev pub Rejects : List ℕ → WireFault → Type 0
 Rejects stream fault = RejectsFrom beginning 0 stream fault
 
--- a fault for want of memory says nothing of the stream
-abbrev pub Explains : List ℕ → WireFault → Type 0
-Explains stream Memory = Unit {0}
-Explains stream fault = Rejects stream fault
+-- The message right before, behind some messages.
+abbrev pub latest_after : Option Message → List Message → Option Message
+latest_after latest [] = latest
+latest_after latest (m ∷ ms) = latest_after (Some m) ms
+
+-- The bytes are these messages, in order behind what came before, and an unfinished rest.
+pub record ReadsTo (before : Before) (bytes : List ℕ) (messages : List Message) (rest : List ℕ) : Type 0 where
+  pub whole : bytes ≡ spellings messages ++ rest
+  pub in_order : AreInOrder before messages
+  pub unfinished : IsUnfinished rest
+
+-- A decoder has read the whole messages at the front of its rest.
+pub record Settles (old new : Decoding) : Type 0 where
+  pub messages : List Message
+  pub held : new.held ≡ old.held ++ messages
+  pub reads : ReadsTo old.before old.rest messages new.rest
+  pub before : new.before ≡ with_messages old.before messages
+  pub fed : new.fed ≡ old.fed
+
+-- what is wrong with the bytes behind the messages that a decoder has read
+abbrev pub RejectsRest : Decoding → WireFault → Type 0
+RejectsRest d fault = RejectsFrom d.before (d.fed - length d.rest) d.rest fault

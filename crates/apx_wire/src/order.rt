@@ -40,7 +40,10 @@ fn inside(latest: Option<&Message>) -> bool
 fn outside(latest: Option<&Message>) -> bool
     ensures { result ≡ is_outside (option_copied latest.entry) }
 {
-    matches!(latest, None | Some(Message::End(_) | Message::Checkpoint(_)))
+    matches!(
+        latest,
+        None | Some(Message::End(_) | Message::Checkpoint(_))
+    )
 }
 
 fn payload_may_come(latest: Option<&Message>, tuple: &Tuple) -> bool

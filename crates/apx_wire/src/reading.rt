@@ -1,7 +1,9 @@
 //! Reading the message at the front of some bytes.
-ghost use Rattle.std.specs.Prelude.{◌≡◌, ◌≤◌, length, IfOk, IfErr};
+ghost use Rattle.std.specs.Prelude.{◌≡◌, ◌≤◌, ◌++◌, ℕ, List, length, IfOk, IfErr, IfSome};
 ghost use Rattle.std.specs.Int.{w32, w64};
-ghost use Rattle.apx_wire.specs.Judging.{judged, payload_judged, id_in, second_in, Gives};
+ghost use Rattle.apx_wire.specs.declared.message.Message.{Message};
+ghost use Rattle.apx_wire.specs.Spelling.{IsMessage, BeginsWith, spelling};
+ghost use Rattle.apx_wire.specs.Judging.{judged, payload_judged, field_in, Gives};
 
 use crate::fault::WireFault;
 use crate::message::Message;
@@ -12,12 +14,22 @@ use std::alloc::Global;
 /// The message at the front of the bytes and how many of them it has, for bytes that begin with a
 /// message's type byte at a place of the stream. `None` while the message isn't whole and nothing
 /// is wrong with what has come of it.
-#[tactic(auto, unfolding(crate::specs::Judging::judged))]
 pub fn first_message(
     alloc: Global,
     place: u64,
     bytes: &[u8],
 ) -> Result<Option<(Message, usize)>, WireFault>
+    ensures exact { Gives result (judged place bytes.now) }
+
+    // What is read is spelled so, and what is spelled so is read, whatever follows it.
+    ensures found { IfOk result (λ found. IfSome found (λ x. BeginsWith bytes.now x.0 x.1)) }
+    ensures only { (m : Message) (rest : List ℕ) → IsMessage m → bytes.now ≡ spelling m ++ rest → Gives result (Ok (Some (m, length (spelling m)))) }
+{
+    judge(alloc, place, bytes)
+}
+
+#[tactic(auto, unfolding(crate::specs::Judging::judged))]
+fn judge(alloc: Global, place: u64, bytes: &[u8]) -> Result<Option<(Message, usize)>, WireFault>
     ensures { Gives result (judged place bytes.now) }
 {
     match bytes {
@@ -33,7 +45,7 @@ pub fn first_message(
 }
 
 fn first_id(bytes: &[u8]) -> Option<u64>
-    ensures { result ≡ id_in bytes.now }
+    ensures { result ≡ field_in w64 bytes.now }
 {
     if bytes.len() < 8 {
         return None;
@@ -44,7 +56,7 @@ fn first_id(bytes: &[u8]) -> Option<u64>
 }
 
 fn first_second(bytes: &[u8]) -> Option<u32>
-    ensures { result ≡ second_in bytes.now }
+    ensures { result ≡ field_in w32 bytes.now }
 {
     if bytes.len() < 4 {
         return None;
@@ -80,7 +92,10 @@ fn first_payload(
         return Ok(None);
     };
     let key = make_key(alloc, key)?;
-    let tuple = Tuple { key, value: value.cast_signed() };
+    let tuple = Tuple {
+        key,
+        value: value.cast_signed(),
+    };
     Ok(Some((Message::Payload(tuple), 15 + key_len)))
 }
 

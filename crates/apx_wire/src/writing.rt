@@ -1,7 +1,7 @@
 //! Writing a message's bytes.
 ghost use Rattle.std.specs.Prelude.{◌≡◌, ◌++◌, ◌∷◌, OnOk, OnErr};
 ghost use Rattle.std.specs.Int.{w64, to_be_bytes};
-ghost use Rattle.apx_wire.specs.Spelling.{spelling, tuple_spelling};
+ghost use Rattle.apx_wire.specs.Spelling.{IsMessage, IsTuple, spelling, tuple_spelling};
 
 use crate::message::Message;
 use apx_codec::hash;
@@ -12,6 +12,9 @@ use std::alloc::AllocError;
 pub fn write(message: &Message, into: &mut Vec<u8>) -> Result<(), AllocError>
     ensures ok { OnOk result (into.new.items ≡ into.old.items ++ spelling message.now) }
     ensures err { OnErr result (into.new.items ≡ into.old.items) }
+
+    // Every message fits the fields of its spelling.
+    ensures fits { IsMessage message.now }
 {
     match message {
         Message::Payload(tuple) => write_payload(tuple, into),
@@ -34,15 +37,18 @@ fn write_id(kind: u8, id: u64, into: &mut Vec<u8>) -> Result<(), AllocError>
     into.extend_from_slice(&[kind, a, b, c, d, e, f, g, h])
 }
 
-fn write_payload(tuple: &Tuple, into: &mut Vec<u8>) -> Result<(), AllocError>
+/// Appends the bytes of the payload with this tuple.
+pub fn write_payload(tuple: &Tuple, into: &mut Vec<u8>) -> Result<(), AllocError>
     ensures ok { OnOk result (into.new.items ≡ into.old.items ++ 1 ∷ tuple_spelling tuple.now) }
     ensures err { OnErr result (into.new.items ≡ into.old.items) }
+    ensures fits { IsTuple tuple.now }
 {
     let key = tuple.key.bytes();
     let [a, b, c, d] = hash(key).to_be_bytes();
     let [e, f] = (key.len() as u16).to_be_bytes();
+    let value = tuple.value.cast_unsigned().to_be_bytes();
     into.reserve(15 + key.len())?;
     into.extend_from_slice(&[1, a, b, c, d, e, f])?;
     into.extend_from_slice(key)?;
-    into.extend_from_slice(&tuple.value.cast_unsigned().to_be_bytes())
+    into.extend_from_slice(&value)
 }

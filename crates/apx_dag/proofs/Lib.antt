@@ -1,0 +1,13 @@
+pub mod Answering
+pub mod Building
+pub mod Finding
+pub mod Going
+pub mod Inversions
+pub mod Marking
+pub mod Placing
+pub mod Ranges
+pub mod Repeats
+pub mod Roles
+pub mod Sources
+pub mod Validity
+pub mod Walk

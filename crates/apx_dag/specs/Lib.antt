@@ -1,0 +1,11 @@
+pub mod Checks
+pub mod Class
+pub mod Dag
+pub mod Graph
+pub mod Marks
+pub mod Names
+pub mod Order
+pub mod Ports
+pub mod Role
+pub mod Rules
+pub mod Valid

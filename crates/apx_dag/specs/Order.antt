@@ -1,0 +1,45 @@
+-- Who feeds whom, and in which order operators can step.
+use Rattle.std.specs.Prelude.{◌≡◌, ℕ, ◌<◌, ◌⊎◌, List, length, take, slice_index, slice_index_or, Contains, Option, Some, None}
+use Rattle.apx_dag.specs.declared.link.Link.{Link}
+
+-- the sources of an operator, by its number
+abbrev pub link_at : List Link → ℕ → Link
+link_at links i = slice_index_or links i (record { left = None; right = None })
+
+abbrev pub IsSource : Link → ℕ → Type 0
+IsSource link a = (link.left ≡ Some a) ⊎ (link.right ≡ Some a)
+
+-- operator b reads operator a
+abbrev pub Feeds : List Link → ℕ → ℕ → Type 0
+Feeds links a b = IsSource (link_at links b) a
+
+-- each source is there
+abbrev pub IsWithin : List Link → Type 0
+IsWithin links = (a b : ℕ) → Feeds links a b → a < length links
+
+-- operator c is reached from operator a, over one stream or more
+pub data Reaches (links : List Link) : ℕ → ℕ → Type 0 where
+  at_once : {a b : ℕ} → Feeds links a b → Reaches links a b
+  through : {a b c : ℕ} → Feeds links a b → Reaches links b c → Reaches links a c
+
+-- no operator is reached from itself
+abbrev pub IsAcyclic : List Link → Type 0
+IsAcyclic links = (i : ℕ) → i < length links → ¬ Reaches links i i
+
+-- an operator that isn't placed, with each of its sources placed
+pub record IsReady (links : List Link) (placed : List ℕ) (i : ℕ) : Type 0 where
+  pub here : i < length links
+  pub unplaced : ¬ Contains placed i
+  pub fed : (a : ℕ) → Feeds links a i → Contains placed a
+
+-- the earliest operator that is ready
+pub record IsNext (links : List Link) (placed : List ℕ) (i : ℕ) : Type 0 where
+  pub ready : IsReady links placed i
+  pub earliest : (j : ℕ) → j < i → ¬ IsReady links placed j
+
+-- At each step comes the earliest operator whose sources are placed, and each operator comes. So each
+-- comes once, after its sources.
+pub record IsOrder (links : List Link) (order : List ℕ) : Type 0 where
+  pub next : (k : ℕ) → k < length order → IsNext links (take k order) (slice_index order k)
+  pub each : (i : ℕ) → i < length links → Contains order i
+  pub size : length order ≡ length links

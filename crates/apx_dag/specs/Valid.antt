@@ -1,0 +1,49 @@
+-- What each graph keeps.
+use Rattle.std.specs.Prelude.{◌≡◌, ◌≢◌, ℕ, ◌<◌, ◌≤◌, ◌⊎◌, List, length}
+use Rattle.apx_tuple.specs.declared.kind.Kind.{Kind}
+use Rattle.apx_tuple.specs.declared.kind.Kind.TheVariants as kinds
+use Rattle.apx_pass.specs.Graph.{Role, Input, Inner, Sink, Node, node_at}
+use Rattle.apx_dag.specs.Graph.{sources_in}
+use Rattle.apx_dag.specs.Order.{IsWithin, Feeds, Reaches}
+
+-- the numbers of a kind are in their ranges
+abbrev pub IsKind : Kind → Type 0
+IsKind (kinds.Prefix len) = len ≤ 1024
+IsKind (kinds.Tumble every) = (1 ≤ every) × (every ≤ 20000)
+IsKind (kinds.Top k) = (1 ≤ k) × (k ≤ 1000)
+IsKind _ = Unit {0}
+
+abbrev pub IsRole : Role → Type 0
+IsRole (Input kind file per_window) = (1 ≤ per_window) × (per_window ≤ 1000000)
+IsRole (Inner kind) = IsKind kind
+IsRole Sink = Unit {0}
+
+abbrev pub IsInput : Role → Type 0
+IsInput (Input kind file per_window) = Unit {0}
+IsInput (Inner kind) = ⊥
+IsInput Sink = ⊥
+
+-- an input or the sink
+abbrev pub IsEnd : Role → Type 0
+IsEnd (Input kind file per_window) = Unit {0}
+IsEnd (Inner kind) = ⊥
+IsEnd Sink = Unit {0}
+
+pub record IsNode (node : Node) : Type 0 where
+  pub role : IsRole node.role
+  pub partitions : (1 ≤ node.partitions) × (node.partitions ≤ 8)
+  pub gathers : (1 ≤ node.gathers) × (node.gathers ≤ 20000)
+  pub alone : IsEnd node.role → (node.partitions ≡ 1) × (node.gathers ≡ 1)
+
+-- an input, or one that is reached from an input
+abbrev pub IsFed : List Node → ℕ → Type 0
+IsFed nodes i = IsInput (node_at nodes i).role ⊎ ((a : ℕ) × (a < length nodes) × IsInput (node_at nodes a).role × Reaches (sources_in nodes) a i)
+
+-- Each source is an operator that isn't the sink, there is one sink, and each operator that isn't an
+-- input is reached from one.
+pub record IsGraph (nodes : List Node) : Type 0 where
+  pub each : (i : ℕ) → i < length nodes → IsNode (node_at nodes i)
+  pub sources : IsWithin (sources_in nodes)
+  pub outputs : (a b : ℕ) → Feeds (sources_in nodes) a b → (node_at nodes a).role ≢ Sink
+  pub sink : (s : ℕ) × (s < length nodes) × ((node_at nodes s).role ≡ Sink) × ((j : ℕ) → j < length nodes → (node_at nodes j).role ≡ Sink → j ≡ s)
+  pub fed : (i : ℕ) → i < length nodes → IsFed nodes i

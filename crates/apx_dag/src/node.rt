@@ -1,0 +1,30 @@
+//! An operator of a graph.
+
+use crate::role::Role;
+use apx_json::Name;
+use std::marker::Model;
+
+/// An operator of a graph, by its number in the file from 0.
+#[derive(Debug, Drop)]
+pub struct Node {
+    pub name: Name,
+    pub role: Role,
+    /// How many partitions there are at the start: 1 to 8.
+    pub parts: u8,
+    /// The number of the operator that the first input port reads, its own
+    /// number where there is no such port.
+    pub left: u16,
+    /// The same of the second input port.
+    pub right: u16,
+    /// How many windows there are to one step: 1 to 20,000.
+    pub group: u32,
+}
+
+impl Model for Node {
+    ghost use Rattle.apx_pass.specs.Graph as graph;
+    ghost use Rattle.apx_dag.specs.Role.{role_view};
+
+    ghost Value = { graph.Node };
+
+    ghost view = { λ n. record { name = n.name; role = role_view n.role; partitions = n.parts; left = n.left; right = n.right; gathers = n.group } };
+}

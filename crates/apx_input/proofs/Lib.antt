@@ -1,0 +1,5 @@
+pub mod Ends
+pub mod Keeping
+pub mod Taking
+pub mod Telling
+pub mod Walking

@@ -1,0 +1,35 @@
+use Rattle.std.proofs.Common.{Err, ap, ◌∙◌}
+use Rattle.std.proofs.lemmas.Result.{err_from_is_err_and}
+use Rattle.apx_pass.specs.Groups.{first_refused, input_of}
+use Rattle.apx_input.proofs.Telling.{only_refusal, none_and_some}
+use Rattle.apx_input.proofs.reading.windows.Goals as goal
+
+pub returns-in_err-starts-clause-refused : goal.returns-in_err-starts-clause-refused
+unfolding first_refused
+returns-in_err-starts-clause-refused c =
+    let p = err_from_is_err_and c.from_residual.result c.from_residual.ensures.1 in
+    rw (p.1, p.2) c.in_err-starts.ensures.refused
+
+pub returns-in_err-starts-clause-exact : goal.returns-in_err-starts-clause-exact
+unfolding first_refused
+returns-in_err-starts-clause-exact c = λ refused e.
+    let p = err_from_is_err_and c.from_residual.result c.from_residual.ensures.1 in
+    only_refusal c.from_residual.result c.in_err-starts.field-0.0 refused (first_refused (input_of c.args.kind c.args.per_window c.args.bytes.now)) (p.1 ∙ ap Err p.2) c.in_err-starts.ensures.refused e
+
+pub invariant_of-result : goal.invariant_of-result
+unfolding first_refused
+invariant_of-result c =
+    rw c.in_ok-from_slice.ensures.items (record {
+      input = record { low = c.requires.low; high = c.requires.high; accepted = c.in_ok-starts.ensures.accepted };
+      starts_at = c.in_ok-starts.ensures.starts;
+      count = c.in_ok-starts.ensures.count;
+      few = c.in_ok-starts.ensures.few;
+    })
+
+pub returns-clause-accepted : goal.returns-clause-accepted
+unfolding first_refused
+returns-clause-accepted c = c.in_ok-starts.ensures.accepted
+
+pub returns-clause-exact : goal.returns-clause-exact
+unfolding first_refused
+returns-clause-exact c = λ refused e. absurd (none_and_some (first_refused (input_of c.args.kind c.args.per_window c.args.bytes.now)) refused c.in_ok-starts.ensures.accepted e)

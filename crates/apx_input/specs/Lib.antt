@@ -1,0 +1,3 @@
+pub mod Refusals
+pub mod Starts
+pub mod Texts

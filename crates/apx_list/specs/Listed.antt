@@ -1,0 +1,97 @@
+-- A numbered list of blocks.
+use Rattle.std.specs.Prelude.{◌≡◌, ℕ, ◌+◌, ◌*◌, ◌-◌, ◌^◌, ◌≤◌, ◌<◌, List, [], ◌∷◌, ◌++◌, length, Option, Some, None, IfSome, nat_lt, nat_le, ◌&&◌, slice_get, slice_index, if◌then◌else◌}
+use Rattle.apx_list.specs.declared.plan.CutPlan.{CutPlan}
+use Rattle.apx_list.specs.declared.block.Block.{Block}
+use Rattle.apx_list.specs.Plan.{IsPlan}
+use Rattle.apx_list.specs.Block.{Spells, AllSpell}
+
+-- The blocks of the windows above floor up to top, and those so far of the window after. The first of them
+-- has the number first.
+pub record Listed (N : Type 0) : Type 0 where
+  pub name : N
+  pub plan : CutPlan
+  pub floor : ℕ
+  pub top : ℕ
+  pub first : ℕ
+  pub blocks : List Block
+
+-- how many of the blocks are of windows before this one
+abbrev pub before : ℕ → List Block → ℕ
+before window [] = 0
+before window (block ∷ blocks) = (if nat_lt block.window window then 1 else 0) + before window blocks
+
+-- the number of the block that comes next
+abbrev pub next_number : {N : Type 0} → Listed N → ℕ
+next_number list = list.first + length list.blocks
+
+-- all are of windows up to one, or above it
+abbrev pub AreUpTo : ℕ → List Block → Type 0
+AreUpTo window [] = Unit {0}
+AreUpTo window (block ∷ blocks) = (block.window ≤ window) × AreUpTo window blocks
+
+abbrev pub AreAbove : ℕ → List Block → Type 0
+AreAbove window [] = Unit {0}
+AreAbove window (block ∷ blocks) = (window < block.window) × AreAbove window blocks
+
+-- windows from low on up to high, in ascending order
+abbrev pub IsWithin : ℕ → ℕ → List Block → Type 0
+IsWithin low high [] = Unit {0}
+IsWithin low high (block ∷ blocks) = (low ≤ block.window) × (block.window ≤ high) × IsWithin block.window high blocks
+
+-- The block may be appended: it is the next one of the window after top, it spells what it says, and it is
+-- the one at its number where the name tells the blocks of the list.
+pub record IsNext {N : Type 0} (named : N → Option (List Block)) (list : Listed N) (block : Block) : Type 0 where
+  pub window : block.window ≡ list.top + 1
+  pub there : block.window ≤ list.plan.windows
+  pub index : before (list.top + 1) list.blocks + block.index ≡ length list.blocks
+  pub spells : Spells list.plan block
+  pub told : IfSome (named list.name) (λ blocks. slice_get blocks (next_number list) ≡ Some block)
+
+-- the list with one block more, which ends its window if it is the last of it
+abbrev pub with_block : {N : Type 0} → Listed N → Block → Listed N
+with_block list block = record list {
+  top = (if block.last then list.top + 1 else list.top);
+  blocks = list.blocks ++ block ∷ [];
+}
+
+-- Exactly the blocks of windows up to one are gone, and the others keep their numbers.
+pub record IsPurged {N : Type 0} (old new : Listed N) (to : ℕ) : Type 0 where
+  pub gone : List Block
+  pub split : old.blocks ≡ gone ++ new.blocks
+  pub are_gone : AreUpTo to gone
+  pub are_kept : AreAbove to new.blocks
+  pub first : new.first ≡ old.first + length gone
+  pub floor : new.floor ≡ to
+  pub top : new.top ≡ old.top
+  pub plan : new.plan ≡ old.plan
+  pub name : new.name ≡ old.name
+
+-- Blocks of windows up to one are gone from the front, this many, and none is left there.
+pub record IsDropped (old new : List Block) (to count : ℕ) : Type 0 where
+  pub gone : List Block
+  pub split : old ≡ gone ++ new
+  pub are_gone : AreUpTo to gone
+  pub count_is : count ≡ length gone
+  pub front : IfSome (slice_get new 0) (λ block. to < block.window)
+
+-- The number of block 0 of a window above the floor, up to the one after top: the blocks of the windows
+-- before it have the numbers below.
+abbrev pub start_of : {N : Type 0} → Listed N → ℕ → Option ℕ
+start_of list window =
+    if nat_lt list.floor window && nat_le window (list.top + 1)
+    then Some (list.first + before window list.blocks)
+    else None
+
+-- What a list keeps of its numbers beside its blocks.
+pub record IsKept (plan : CutPlan) (floor top first : ℕ) (blocks : List Block) (from : ℕ) (starts : List ℕ) (next_start : ℕ) : Type 0 where
+  pub plan_is : IsPlan plan
+  pub floor_below : floor ≤ top
+  pub top_below : top ≤ plan.windows
+  pub spelled : AllSpell plan blocks
+  pub within : IsWithin (floor + 1) (top + 1) blocks
+  pub from_below : from ≤ floor
+  pub count : length starts + from ≡ top
+  pub start : (window : ℕ) → floor < window → window ≤ top → slice_index starts (window - from - 1) ≡ first + before window blocks
+  pub next : next_start ≡ first + before (top + 1) blocks
+  pub few_finished : next_start ≤ top * 2 ^ 32
+  pub few_next : first + length blocks ≤ next_start + 2 ^ 32

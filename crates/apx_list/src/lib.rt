@@ -1,0 +1,16 @@
+//! The blocks of a stream: a window's messages cut into blocks, and the numbered list that keeps them.
+#![tactic(auto)]
+
+pub use block::Block;
+pub use cutting::cut;
+pub use list::{DataList, ListFault, Naming, Read};
+pub use plan::CutPlan;
+pub use tuples::payloads;
+
+mod block;
+mod cutting;
+mod list;
+mod plan;
+#[cfg(test)]
+mod tests;
+mod tuples;

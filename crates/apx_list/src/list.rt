@@ -1,0 +1,172 @@
+//! The numbered list of a partition's blocks, from which its readers take them.
+ghost use Rattle.std.specs.Prelude.{◌≡◌, ◌≤◌, [], List, Option, OnOk, OnErr};
+ghost use Rattle.apx_list.specs.Plan.{IsPlan};
+ghost use Rattle.apx_list.specs.Listed.{IsNext, with_block, next_number, IsPurged, IsDropped, start_of};
+ghost use Rattle.apx_list.specs.Reads.{Gives};
+
+use crate::block::Block;
+use crate::plan::CutPlan;
+use apx_device::Spool;
+use std::alloc::{AllocError, Global};
+use std::collections::VecDeque;
+use std::marker::Model;
+use thiserror::Error;
+
+/// The name of a list.
+pub trait Naming {
+    ghost use Rattle.apx_list.specs.declared.block.Block.{Block};
+
+    /// All blocks that the named list may get, by number, where the name tells them.
+    ghost named: { Self → Option (List Block) };
+}
+
+/// What stands at a place of a list.
+#[derive(Debug, Drop)]
+pub enum Read {
+    Block(Block),
+    /// The place is the number of the block that comes next.
+    NotYet,
+}
+
+/// Why a block wasn't read. `F` is how the list's spool fails.
+#[derive(Debug, Drop, Error)]
+#[error_bound(F: std::fmt::Debug + Drop)]
+pub enum ListFault<F> {
+    #[error("the spool failed")]
+    Fault(F),
+    /// The bytes that the spool gave spell no block of this window, index and last mark.
+    #[error("the spool gave other bytes for block {number}")]
+    Damaged {
+        number: u64,
+        window: u32,
+        index: u32,
+        last: bool,
+        bytes: Vec<u8>,
+    },
+    #[error("out of memory")]
+    Memory,
+}
+
+/// A list of blocks, numbered from 0 since it was made.
+///
+/// It has the blocks of the windows above `floor` up to `top`, and those so far of the window after.
+#[derive(Drop)]
+pub struct DataList<S: Spool + Drop, N: Naming + Drop> {
+    name: N,
+    plan: CutPlan,
+    spool: S,
+    // the windows up to this one were purged, and those up to `top` are whole
+    floor: u32,
+    top: u32,
+    // the number of the oldest block kept
+    first: u64,
+    blocks: VecDeque<Block>,
+    // the number of block 0 of each window since the list was made, whose first is that after `from`
+    from: u32,
+    starts: Vec<u64>,
+    // the number of block 0 of the window after `top`
+    next_start: u64,
+}
+
+impl<S: Spool + Drop, N: Naming + Drop> Model for DataList<S, N> {
+    ghost use Rattle.apx_list.specs.Listed.{Listed, IsKept};
+
+    ghost Value = { Listed N };
+
+    ghost view = { λ list. record { name = list.name; plan = list.plan; floor = list.floor; top = list.top; first = list.first; blocks = list.blocks.items } };
+
+    ghost invariant = { λ list. IsKept list.plan list.floor list.top list.first list.blocks.items list.from list.starts.items list.next_start };
+}
+
+impl<S: Spool + Drop, N: Naming + Drop> DataList<S, N> {
+    /// An empty list whose first window is the one after `from`.
+    pub fn new(alloc: Global, name: N, plan: CutPlan, from: u32, spool: S) -> Self
+        requires plan { IsPlan plan }
+        requires from { from ≤ plan.windows }
+        ensures { result ≡ record { name = name; plan = plan; floor = from; top = from; first = 0; blocks = [] } }
+    {
+        DataList {
+            name,
+            plan,
+            spool,
+            floor: from,
+            top: from,
+            first: 0,
+            blocks: VecDeque::new(alloc),
+            from,
+            starts: Vec::new(alloc),
+            next_start: 0,
+        }
+    }
+
+    /// Appends the next block. A refused one is dropped.
+    pub fn append(&mut self, block: Block) -> Result<(), AllocError>
+        requires { IsNext N.named self.old block }
+        ensures ok { OnOk result (self.new ≡ with_block self.old block) }
+        ensures err { OnErr result (self.new ≡ self.old) }
+    {
+        self.starts.reserve(1)?;
+        let last = block.last;
+        self.blocks.push_back(block)?;
+        if last {
+            self.starts.push_reserved(self.next_start);
+            self.next_start = self.first + self.blocks.len() as u64;
+            self.top += 1;
+        }
+        Ok(())
+    }
+
+    /// The block with a number, counted from the first that the list got.
+    pub fn read(&mut self, place: u64) -> Result<Read, ListFault<S::Fault>>
+        requires kept { self.old.first ≤ place }
+        requires there { place ≤ next_number self.old }
+        ensures read { Gives self.old place result }
+        ensures list { self.new ≡ self.old }
+    {
+        let Some(block) = self.blocks.get((place - self.first) as usize) else {
+            return Ok(Read::NotYet);
+        };
+        match block.share() {
+            Ok(block) => Ok(Read::Block(block)),
+            Err(_) => Err(ListFault::Memory),
+        }
+    }
+
+    /// The number of block 0 of a window; None up to the floor and above the window after `top`.
+    pub fn start(&self, window: u32) -> Option<u64>
+        ensures { result ≡ start_of self.now window }
+    {
+        if window <= self.floor || window > self.top + 1 {
+            return None;
+        }
+        if window == self.top + 1 {
+            return Some(self.next_start);
+        }
+        Some(self.starts[(window - self.from) as usize - 1])
+    }
+
+    /// Removes the blocks of the windows up to one. It takes no memory.
+    pub fn purge(&mut self, to: u32)
+        requires floor { self.old.floor ≤ to }
+        requires top { to ≤ self.old.top }
+        ensures { IsPurged self.old self.new to }
+    {
+        self.first += drop_front(&mut self.blocks, to);
+        self.floor = to;
+    }
+}
+
+// Drops the blocks of windows up to one from the front, and tells how many.
+fn drop_front(blocks: &mut VecDeque<Block>, to: u32) -> u64
+    ensures { IsDropped blocks.old.items blocks.new.items to result }
+{
+    let mut count = 0;
+    while let Some(block) = blocks.front() {
+        if block.window > to {
+            break;
+        }
+        let _ = blocks.pop_front();
+        count += 1;
+    }
+    count
+}

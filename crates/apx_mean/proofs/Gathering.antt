@@ -1,0 +1,37 @@
+-- The two cases of what an operator makes of a window: it steps, or it carries what came.
+use Rattle.std.proofs.Common.{◌≡◌, ◌≢◌, ◌<◌, ℕ, ◌%◌, ◌/◌, ◌==◌, ◌∷◌, length, Bool, true, false, cond, List, [], ◌++◌, refl, ap, ◌∙◌, arith}
+use borrow.Author.Tests.{eqb-true}
+use Rattle.apx_order.proofs.Sorting.{sorted-of-ascending}
+use Rattle.apx_tuple.specs.declared.kind.Kind.{Kind}
+use Rattle.apx_tuple.specs.declared.progress.Progress.{Progress}
+use Rattle.apx_tuple.specs.declared.tuple.Tuple.{Tuple}
+use Rattle.apx_tuple.specs.Tuple.{bag_of, IsBag}
+use Rattle.apx_tuple.proofs.Orders.{tuple_order-exact}
+use Rattle.apx_rules.specs.Step.{step, Stepped}
+use Rattle.apx_pass.specs.Pass.{Passed, gather}
+use Rattle.apx_mean.specs.Views.{carry}
+
+-- what an operator makes of a window of a step
+abbrev pub after_step : Stepped → Passed
+after_step s = record { progress = record { state = s.state; left = []; right = [] }; rows = s.rows }
+
+choose : (b : Bool) (n : ℕ) (x y : Passed) → (n == 0) ≡ b → n ≢ 0 → cond b x y ≡ y
+choose true n x y e h = absurd (h (eqb-true n 0 e))
+choose false n x y e h = refl
+
+module _ (kind : Kind) (gathers w : ℕ) (before : Progress) (left right : List Tuple) where
+  pub gather-steps : w % gathers ≡ 0 → gather kind gathers w before left right ≡ after_step (step kind (w / gathers) before.state (bag_of (before.left ++ left)) (bag_of (before.right ++ right)))
+  unfolding gather
+  gather-steps h = ap (λ n. cond (n == 0) (after_step (step kind (w / gathers) before.state (bag_of (before.left ++ left)) (bag_of (before.right ++ right)))) (record { progress = carry before left right; rows = [] })) h
+
+  pub gather-carries : w % gathers ≢ 0 → gather kind gathers w before left right ≡ record { progress = carry before left right; rows = [] }
+  unfolding gather
+  gather-carries h = choose (w % gathers == 0) (w % gathers) _ _ refl h
+
+-- a bag with nothing before it is itself
+pub bag_of-bag : (before tuples : List Tuple) → before ≡ [] → IsBag tuples → bag_of (before ++ tuples) ≡ tuples
+bag_of-bag before tuples e b = ap (λ (xs : List Tuple). bag_of (xs ++ tuples)) e ∙ sorted-of-ascending tuple_order-exact tuples b.ascends
+
+pub no-members : (tuples : List Tuple) → length tuples < 1 → tuples ≡ []
+no-members [] h = refl
+no-members (t ∷ ts) h = absurd (omega arith)

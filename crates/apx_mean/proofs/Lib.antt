@@ -1,0 +1,4 @@
+pub mod Gathering
+pub mod Rows
+pub mod Sinks
+pub mod Turn

@@ -1,0 +1,72 @@
+-- One turn of the loop over the operators in their order.
+use Rattle.std.proofs.Common.{◌≡◌, ℕ, suc, ◌+◌, ◌<◌, ◌≤◌, List, [], ◌∷◌, ◌++◌, length, take, map, get_or, slice_index, Option, refl, sym, ap, ◌∙◌, subst, arith, length-take-le}
+use Rattle.std.proofs.lemmas.List.{take_more, map_push, get_or-map, length-map}
+use Rattle.apx_tuple.specs.declared.progress.Progress.{Progress}
+use Rattle.apx_tuple.specs.declared.tuple.Tuple.{Tuple}
+use Rattle.apx_pass.specs.Graph.{Node, node_at}
+use Rattle.apx_pass.specs.Groups.{Input}
+use Rattle.apx_pass.specs.Large.{IsLargePassed, IsLargeJob, right_came}
+use Rattle.apx_pass.specs.Order.{IsOrder}
+use Rattle.apx_pass.specs.Pass.{Job, Passed, at_start, pass_node, pass_window, progress_after, rows_at, input_at}
+use Rattle.apx_pass.proofs.Passing.{pass_window-node}
+use Rattle.apx_mean.specs.Views.{IsPassed}
+
+module _ (job : Job) (order : List ℕ) (o : IsOrder job.nodes order) (passed : ℕ) where
+  -- what each operator gives and carries, by the rows of its sources
+  pub turn : (k : ℕ) → k < length order → let op = slice_index order k in let node = node_at job.nodes op in
+      pass_window job (suc passed) (progress_after job passed) op ≡ pass_node node (input_at job op) (suc passed) (progress_after job passed op) (rows_at job (suc passed) node.left) (rows_at job (suc passed) node.right)
+  unfolding rows_at
+  turn k h = pass_window-node job order o (suc passed) (progress_after job passed) k h
+
+  after : (op : ℕ) → (pass_window job (suc passed) (progress_after job passed) op).progress ≡ progress_after job (suc passed) op
+  unfolding progress_after
+  after op = refl
+
+  given : (op : ℕ) → (pass_window job (suc passed) (progress_after job passed) op).rows ≡ rows_at job (suc passed) op
+  unfolding rows_at
+  given op = refl
+
+  module _ (k : ℕ) (h : k < length order) (node : Node) (n : node ≡ node_at job.nodes (slice_index order k)) (input : Option Input) (i : input ≡ input_at job (slice_index order k))
+      (before : Progress) (b : before ≡ progress_after job passed (slice_index order k)) (w : ℕ) (e : w ≡ suc passed) where
+    same : pass_node node input w before (rows_at job (suc passed) node.left) (rows_at job (suc passed) node.right) ≡ pass_window job (suc passed) (progress_after job passed) (slice_index order k)
+    same = (λ j. pass_node (n j) (i j) (e j) (b j) (rows_at job (suc passed) (n j).left) (rows_at job (suc passed) (n j).right)) ∙ sym (turn k h)
+
+    -- what the code makes of the operator in its turn
+    pub made : (progress : Progress) (rows : List Tuple) → IsPassed progress rows (pass_node node input w before (rows_at job (suc passed) node.left) (rows_at job (suc passed) node.right)) →
+        (progress ≡ progress_after job (suc passed) (slice_index order k)) × (rows ≡ rows_at job (suc passed) (slice_index order k))
+    made progress rows p = (p.0 ∙ ap (λ (x : Passed). x.progress) same ∙ after (slice_index order k), p.1 ∙ ap (λ (x : Passed). x.rows) same ∙ given (slice_index order k))
+
+    -- what is too large for the code is too large in the pass
+    pub made-large : IsLargePassed before (rows_at job (suc passed) node.left) (right_came node.role (rows_at job (suc passed) node.right)) (pass_node node input w before (rows_at job (suc passed) node.left) (rows_at job (suc passed) node.right)) →
+        IsLargeJob job
+    made-large large =
+        let P : Node × Progress × Passed → Type 0 = λ x. IsLargePassed x.1 (rows_at job (suc passed) x.0.left) (right_came x.0.role (rows_at job (suc passed) x.0.right)) x.2 in
+        record { passed = passed; operator = slice_index order k; is = subst P (λ j. (n j, b j, same j)) large }
+
+-- a list that has gone one place further
+pub map-one-more : {X : Type 0} (f : ℕ → X) (order : List ℕ) (k n : ℕ) (made : X) (before after : List X) → k < length order → n ≡ k + 1 → before ≡ map f (take k order) → made ≡ f (slice_index order k) → after ≡ before ++ made ∷ [] → after ≡ map f (take n order)
+map-one-more f order k n made before after h e b m a =
+    a ∙ (λ j. b j ++ m j ∷ []) ∙ sym (map_push f (take k order) (slice_index order k)) ∙ ap (map f) (sym (take_more order k 0 h)) ∙ ap (λ q. map f (take q order)) (sym e)
+
+-- where the loop stands in the order, and what the operator there carried before
+pub here : (progress : List Progress) (order : List ℕ) (f : ℕ → Progress) (n k : ℕ) (before : Progress) → n ≡ k → progress ≡ map f order → k < length progress → before ≡ get_or progress k before →
+    (n < length order) × (before ≡ f (slice_index order n))
+here progress order f n k before e p h b =
+    let long : length progress ≡ length order = ap length p ∙ length-map order f in
+    let within : k < length order = omega arith in
+    let at : before ≡ f (slice_index order k) = b ∙ ap (λ (xs : List Progress). get_or xs k before) p ∙ get_or-map f order k 0 before within in
+    (omega arith, at ∙ ap (λ q. f (slice_index order q)) (sym e))
+
+-- the rows that were given so far
+pub so-far : (rows : List (List Tuple)) (order : List ℕ) (f : ℕ → List Tuple) (k : ℕ) → rows ≡ map f (take k order) → k ≤ length order → (length rows ≡ k) × (rows ≡ map f (take (length rows) order))
+so-far rows order f k e h =
+    let long : length rows ≡ k = ap length e ∙ length-map (take k order) f ∙ length-take-le k order h in
+    (long, e ∙ ap (λ q. map f (take q order)) (sym long))
+
+pub within : (progress : List Progress) (order : List ℕ) (f : ℕ → Progress) (k : ℕ) → progress ≡ map f order → k < length progress → k ≤ length order
+within progress order f k p h = let long : length progress ≡ length order = ap length p ∙ length-map order f in omega arith
+
+-- at the start each operator carries nothing
+pub starts-at : (job : Job) (order : List ℕ) → map (λ _. at_start) order ≡ map (progress_after job 0) order
+unfolding progress_after
+starts-at job order = refl

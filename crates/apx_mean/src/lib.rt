@@ -1,0 +1,10 @@
+//! The one pass over an application: every operator whole, window after window.
+//!
+//! [`OnePass`] goes on by a window at a time and gives the rows that reach the sink.
+#![tactic(auto)]
+
+pub use pass::OnePass;
+
+mod gather;
+mod operator;
+mod pass;

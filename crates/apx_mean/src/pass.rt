@@ -1,0 +1,181 @@
+//! One pass over a graph, a window at a time.
+ghost use Rattle.std.specs.Prelude.{◌≡◌, ◌<◌, ◌+◌, ℕ, suc, None, length, map, slice_index, slice_index_or, IfOk};
+ghost use Rattle.std.specs.Option.{option_copied};
+ghost use Rattle.apx_pass.specs.Order.{IsBefore, IsOrder};
+ghost use Rattle.apx_pass.specs.Valid.{IsValid};
+ghost use Rattle.apx_pass.specs.Pass.{at_start, progress_after, rows_at, is_sink, sink_of};
+ghost use Rattle.apx_mean.specs.Passing.{job_of};
+ghost use Rattle.apx_pass.specs.Large.{IsLargeJob};
+
+use crate::operator::pass_operator;
+use apx_dag::{Dag, Node, Role};
+use apx_input::Windows;
+use apx_tuple::{Bag, Progress, Short};
+use std::alloc::{AllocError, Global};
+use std::marker::Model;
+
+/// A pass over an application that has gone through its first windows.
+#[derive(Drop)]
+pub struct OnePass<'a> {
+    dag: &'a Dag,
+    /// The windows of each operator that is an input, by the operators' numbers.
+    inputs: &'a [Option<Windows>],
+    /// The operators' numbers, each behind those that it reads.
+    order: &'a [u16],
+    /// The sink's place in the order.
+    sink: usize,
+    /// What each operator carries on, in the order.
+    progress: Vec<Progress>,
+    passed: u32,
+}
+
+impl<'a> Model for OnePass<'a> {
+    ghost use Rattle.apx_mean.specs.Passing.{Passing, IsPassing};
+
+    ghost Value = { Passing };
+
+    ghost view = { λ p. record { job = record { nodes = p.dag.now; inputs = p.inputs.now }; passed = p.passed } };
+
+    ghost invariant = { λ p. IsPassing (record { job = record { nodes = p.dag.now; inputs = p.inputs.now }; passed = p.passed }) p.order.now p.sink p.progress.items };
+}
+
+impl<'a> OnePass<'a> {
+    ghost use Rattle.std.specs.Prelude.{◌≡◌, ◌<◌, ◌+◌, suc, IfOk};
+    ghost use Rattle.apx_mean.specs.Passing.{job_of};
+    ghost use Rattle.apx_pass.specs.Pass.{Job, rows_at, sink_of};
+    ghost use Rattle.apx_pass.specs.Large.{IsLargeJob};
+
+    /// A pass that has gone through no window yet.
+    pub fn new(
+        alloc: Global,
+        dag: &'a Dag,
+        inputs: &'a [Option<Windows>],
+    ) -> Result<OnePass<'a>, AllocError>
+        ensures { IfOk result (λ pass. pass ≡ record { job = job_of dag.now inputs.now; passed = 0 }) }
+    {
+        let order = dag.order();
+        let sink = place_of(order, sink_number(dag));
+        let progress = starts(alloc, order)?;
+        Ok(OnePass {
+            dag,
+            inputs,
+            order,
+            sink,
+            progress,
+            passed: 0,
+        })
+    }
+
+    /// Goes through the next window and gives the rows that reach the sink in it.
+    ///
+    /// `Large` comes only where a bag or a state that the pass names is too large.
+    pub fn next(self, alloc: Global) -> Result<(OnePass<'a>, Bag), Short>
+        requires { self.passed < 20000 }
+        ensures ok { IfOk result (λ r. (r.0 ≡ record { job = self.entry.job; passed = self.entry.passed + 1 }) × (r.1 ≡ rows_at self.entry.job (suc self.entry.passed) (sink_of self.entry.job.nodes))) }
+        ensures large { result ≡ Err Short.Large → IsLargeJob self.entry.job }
+    {
+        let OnePass {
+            dag,
+            inputs,
+            order,
+            sink,
+            progress,
+            passed,
+        } = self;
+        let (progress, mut rows) = pass_all(alloc, dag, inputs, order, passed, progress)?;
+        let rows = rows.swap_remove(sink);
+        let pass = OnePass {
+            dag,
+            inputs,
+            order,
+            sink,
+            progress,
+            passed: passed + 1,
+        };
+        Ok((pass, rows))
+    }
+}
+
+/// What each operator of the order carries at the start.
+fn starts(alloc: Global, order: &[u16]) -> Result<Vec<Progress>, AllocError>
+    ensures { IfOk result (λ progress. progress.items ≡ map (λ _. at_start) order.now) }
+{
+    let mut progress = Vec::new(alloc);
+    for _operator in order {
+        progress.push(Progress::new(alloc))?;
+    }
+    Ok(progress)
+}
+
+/// Where the operator stands in the order.
+fn place_of(order: &[u16], operator: u16) -> usize
+    requires { IsBefore order.now (length order.now) operator }
+    ensures within { result < length order.now }
+    ensures named { slice_index order.now result ≡ operator }
+{
+    for place in 0..order.len() {
+        if order[place] == operator {
+            return place;
+        }
+    }
+    unreachable!()
+}
+
+/// The windows of an operator, if it is an input.
+fn input_of(inputs: &[Option<Windows>], operator: u16) -> Option<&Windows>
+    ensures { option_copied result ≡ slice_index_or inputs.now operator None }
+{
+    match inputs.get(operator as usize) {
+        Some(Some(windows)) => Some(windows),
+        _ => None,
+    }
+}
+
+/// What each operator carries on from the window after `passed`, and what it gives in it, in the order.
+fn pass_all(
+    alloc: Global,
+    dag: &Dag,
+    inputs: &[Option<Windows>],
+    order: &[u16],
+    passed: u32,
+    progress: Vec<Progress>,
+) -> Result<(Vec<Progress>, Vec<Bag>), Short>
+    requires passed { passed < 20000 }
+    requires order { IsOrder dag.now order.now }
+    requires valid { IsValid dag.now }
+    requires carried { progress.items ≡ map (progress_after (job_of dag.now inputs.now) passed) order.now }
+    ensures progress { IfOk result (λ r. r.0.items ≡ map (progress_after (job_of dag.now inputs.now) (suc passed)) order.now) }
+    ensures rows { IfOk result (λ r. r.1.items ≡ map (rows_at (job_of dag.now inputs.now) (suc passed)) order.now) }
+    ensures large { result ≡ Err Short.Large → IsLargeJob (job_of dag.now inputs.now) }
+{
+    let mut carried = Vec::new(alloc);
+    let mut rows = Vec::new(alloc);
+    for before in progress {
+        let operator = order[rows.len()];
+        let node = dag.node(operator);
+        let input = input_of(inputs, operator);
+        let made = pass_operator(alloc, node, input, order, &rows, passed + 1, before)?;
+        carried.push(made.progress)?;
+        rows.push(made.rows)?;
+    }
+    Ok((carried, rows))
+}
+
+/// The number of the first sink, or how many operators there are where there is none.
+fn sink_number(dag: &Dag) -> u16
+    ensures number { result ≡ sink_of dag.now }
+    ensures valid { IsValid dag.now }
+{
+    for op in 0..dag.len() {
+        if is_sink(dag.node(op)) {
+            return op;
+        }
+    }
+    dag.len()
+}
+
+fn is_sink(node: &Node) -> bool
+    ensures { result ≡ is_sink node.now.role }
+{
+    matches!(node.role, Role::Sink)
+}
