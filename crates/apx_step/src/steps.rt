@@ -1,8 +1,9 @@
 //! What an operator makes of one window.
-ghost use Rattle.std.specs.Prelude.{◌≡◌, map, IfOk};
-ghost use Rattle.apx_tuple.specs.State.{IsState};
+ghost use Rattle.std.specs.Prelude.{◌≡◌, ◌⊎◌, ◌++◌, map, IfOk};
+ghost use Rattle.apx_tuple.specs.Size.{IsLarge};
+ghost use Rattle.apx_tuple.specs.State.{pair_key, IsState};
+ghost use Rattle.apx_tuple.specs.Tuple.{tuple_key};
 ghost use Rattle.apx_rules.specs.Step.{keyed_step, step};
-ghost use Rattle.apx_step.specs.Answer.{IsStepped, IsTooLarge};
 ghost use Rattle.apx_step.specs.Walk.{keeps, start_of, closes, pair_tuple};
 
 use crate::rules::tell;
@@ -23,8 +24,8 @@ pub fn step(
     left: &Bag,
     right: &Bag,
 ) -> Result<(State, Bag), Short>
-    ensures ok { IfOk result (IsStepped (step kind.now window state.now left.now right.now)) }
-    ensures large { result ≡ Err Short.Large → IsTooLarge (step kind.now window state.now left.now right.now) }
+    ensures ok { IfOk result (λ r. (r.0 ≡ (step kind.now window state.now left.now right.now).state) × (r.1 ≡ (step kind.now window state.now left.now right.now).rows)) }
+    ensures large { result ≡ Err Short.Large → IsLarge pair_key (step kind.now window state.now left.now right.now).state ⊎ IsLarge tuple_key (step kind.now window state.now left.now right.now).rows }
 {
     match *kind {
         Kind::Top { k } => Ok((State::new(alloc), top(alloc, k, left)?)),
@@ -41,8 +42,8 @@ fn keyed_step(
     left: &Bag,
     right: &Bag,
 ) -> Result<(State, Bag), Short>
-    ensures ok { IfOk result (IsStepped (keyed_step kind.now window state.now left.now right.now)) }
-    ensures large { result ≡ Err Short.Large → IsTooLarge (keyed_step kind.now window state.now left.now right.now) }
+    ensures ok { IfOk result (λ r. (r.0 ≡ (keyed_step kind.now window state.now left.now right.now).state) × (r.1 ≡ (keyed_step kind.now window state.now left.now right.now).rows)) }
+    ensures large { result ≡ Err Short.Large → IsLarge pair_key (keyed_step kind.now window state.now left.now right.now).state ⊎ IsLarge tuple_key (keyed_step kind.now window state.now left.now right.now).rows }
 {
     let start = start_of(alloc, kind, state)?;
     let (kept, told) = walk(alloc, kind, start, left, right)?;
