@@ -1,4 +1,5 @@
 pub mod Lines
 pub mod Loop
+pub mod Print
 pub mod Sent
 pub mod Store

@@ -1,6 +1,7 @@
 //! The top call: from the words of the command line and the devices to a status.
 #![tactic(auto)]
 
+mod print;
 mod say;
 mod store;
 mod write;
