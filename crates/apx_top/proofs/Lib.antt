@@ -1,2 +1,3 @@
 pub mod Printing
+pub mod Running
 pub mod Storing

@@ -3,5 +3,6 @@
 
 mod print;
 mod say;
+mod sim;
 mod store;
 mod write;
