@@ -12,20 +12,20 @@ use Rattle.apx_top.specs.Run.{HasRun, HasLeft, IsSimStop}
 use Rattle.apx_top.specs.Plain.{HasChecked, IsCheckStop, IsStop, HasDone, HasStopped, checked, ran, checking, running}
 
 module _ (words : List (List ℕ)) (told : Told) (name : List ℕ) where
-  module _ (tells : Bool) (store_before store_after : List (List Tuple)) (out_before out_after : List ℕ) where
-    pub check-done : command_of words ≡ Some (Check, name) → store_after ≡ store_before → (r : Result ⊤ Stop) → OnOk r (HasChecked told name tells out_before out_after) → OnOk r (HasDone words told tells store_before store_after out_before out_after)
+  module _ (files_tell tells : Bool) (store_before store_after : List (List Tuple)) (out_before out_after : List ℕ) where
+    pub check-done : command_of words ≡ Some (Check, name) → store_after ≡ store_before → (r : Result ⊤ Stop) → OnOk r (HasChecked files_tell told name tells out_before out_after) → OnOk r (HasDone words files_tell told tells store_before store_after out_before out_after)
     check-done command same (Ok v) done = checked name command done same
     check-done command same (Err stop) done = tt
 
-    pub check-left : command_of words ≡ Some (Check, name) → store_after ≡ store_before → (r : Result ⊤ Stop) → IfErr r (λ _. IsTrue tells → GotFront (codes "ok\n") out_before out_after) → IfErr r (HasStopped words told tells store_before store_after out_before out_after)
+    pub check-left : command_of words ≡ Some (Check, name) → store_after ≡ store_before → (r : Result ⊤ Stop) → IfErr r (λ _. IsTrue tells → GotFront (codes "ok\n") out_before out_after) → IfErr r (HasStopped words files_tell told tells store_before store_after out_before out_after)
     check-left command same (Ok v) left = tt
     check-left command same (Err stop) left = checking name command left same
 
-    pub sim-done : command_of words ≡ Some (Sim, name) → (r : Result ⊤ Stop) → OnOk r (HasRun told name tells store_before store_after out_before out_after) → OnOk r (HasDone words told tells store_before store_after out_before out_after)
+    pub sim-done : command_of words ≡ Some (Sim, name) → (r : Result ⊤ Stop) → OnOk r (HasRun files_tell told name tells store_before store_after out_before out_after) → OnOk r (HasDone words files_tell told tells store_before store_after out_before out_after)
     sim-done command (Ok v) done = ran name command done
     sim-done command (Err stop) done = tt
 
-    pub sim-left : command_of words ≡ Some (Sim, name) → (r : Result ⊤ Stop) → IfErr r (HasLeft told name tells store_before store_after out_before out_after) → IfErr r (HasStopped words told tells store_before store_after out_before out_after)
+    pub sim-left : command_of words ≡ Some (Sim, name) → (r : Result ⊤ Stop) → IfErr r (HasLeft files_tell told name tells store_before store_after out_before out_after) → IfErr r (HasStopped words files_tell told tells store_before store_after out_before out_after)
     sim-left command (Ok v) left = tt
     sim-left command (Err stop) left = running name command left
 

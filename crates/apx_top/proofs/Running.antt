@@ -43,7 +43,7 @@ take-length : {X : Type 0} (xs : List X) → take (length xs) xs ≡ xs
 take-length [] = refl
 take-length (x ∷ xs) = ap (λ l. x ∷ l) (take-length xs)
 
-module _ (job : Job) (told : Told) (name : List ℕ) (tells : Bool) (before mid after : List (List Tuple)) (out_before out_after : List ℕ) (n : ℕ) (count : n ≡ windows job) (accepted : IsAccepted told name job) (all : HoldsPrefix job before → mid ≡ mean job) (same : after ≡ mid) where
+module _ (job : Job) (files_tell : Bool) (told : Told) (name : List ℕ) (tells : Bool) (before mid after : List (List Tuple)) (out_before out_after : List ℕ) (n : ℕ) (count : n ≡ windows job) (accepted : IsTrue files_tell → IsAccepted told name job) (all : HoldsPrefix job before → mid ≡ mean job) (same : after ≡ mid) where
   text-of : HoldsPrefix job before → windows_text 1000000000 1 (take n mid) ≡ rows_text job
   text-of h =
       let m = all h in
@@ -54,7 +54,7 @@ module _ (job : Job) (told : Told) (name : List ℕ) (tells : Bool) (before mid 
   long h = let e : n ≡ length mid = count ∙ sym (length-mean_up_to job (windows job)) ∙ sym (ap length (all h)) in omega arith
 
   -- after all was printed
-  pub run-done : (r : Result ⊤ Stop) → (n ≤ length mid → HasWritten tells (windows_text 1000000000 1 (take n mid)) r out_before out_after) → OnOk r (HasRun told name tells before after out_before out_after)
+  pub run-done : (r : Result ⊤ Stop) → (n ≤ length mid → HasWritten tells (windows_text 1000000000 1 (take n mid)) r out_before out_after) → OnOk r (HasRun files_tell told name tells before after out_before out_after)
   run-done (Ok v) written = record {
     job = job;
     accepted = accepted;
@@ -64,6 +64,6 @@ module _ (job : Job) (told : Told) (name : List ℕ) (tells : Bool) (before mid 
   run-done (Err stop) written = tt
 
   -- after printing stopped
-  pub run-left : (A B : Type 0) (r : Result ⊤ Stop) → (n ≤ length mid → HasWritten tells (windows_text 1000000000 1 (take n mid)) r out_before out_after) → IfErr r (IsPrintStop A B) → IfErr r (HasLeft told name tells before after out_before out_after)
+  pub run-left : (A B : Type 0) (r : Result ⊤ Stop) → (n ≤ length mid → HasWritten tells (windows_text 1000000000 1 (take n mid)) r out_before out_after) → IfErr r (IsPrintStop A B) → IfErr r (HasLeft files_tell told name tells before after out_before out_after)
   run-left A B (Ok v) written stop = tt
   run-left A B (Err e) written stop = printing job accepted (λ h. same ∙ all h) (λ t h. subst (λ x. GotFront x out_before out_after) (text-of h) (written (long h) t)) (weaker A B e stop)

@@ -17,9 +17,8 @@ use Rattle.apx_top.specs.Run.{HasRun, HasLeft}
 -- ---- judging an application
 
 -- the application is accepted, and the output got `ok`
-pub record HasChecked (told : Told) (name : List ℕ) (tells : Bool) (out_before out_after : List ℕ) : Type 0 where
-  pub nodes : List Node
-  pub accepted : IsApplication told name nodes
+pub record HasChecked (files_tell : Bool) (told : Told) (name : List ℕ) (tells : Bool) (out_before out_after : List ℕ) : Type 0 where
+  pub accepted : IsTrue files_tell → (nodes : List Node) × IsApplication told name nodes
   pub printed : IsTrue tells → out_after ≡ out_before ++ codes "ok\n"
 
 -- what stops it: a refusal of the file, a fault of the folder or of the output, and want of memory
@@ -44,15 +43,15 @@ IsStop words tells told folder store output Memory = ⊤
 IsStop words tells told folder store output Large = IsTrue tells → (job : Job) × IsJob words told job × IsLargeJob job
 
 -- all that the words ask for is done
-pub data HasDone (words : List (List ℕ)) (told : Told) (tells : Bool) (store_before store_after : List (List Tuple)) (out_before out_after : List ℕ) : Type 0 where
-  checked : (name : List ℕ) → command_of words ≡ Some (Check, name) → HasChecked told name tells out_before out_after → store_after ≡ store_before → HasDone words told tells store_before store_after out_before out_after
-  ran : (name : List ℕ) → command_of words ≡ Some (Sim, name) → HasRun told name tells store_before store_after out_before out_after → HasDone words told tells store_before store_after out_before out_after
+pub data HasDone (words : List (List ℕ)) (files_tell : Bool) (told : Told) (tells : Bool) (store_before store_after : List (List Tuple)) (out_before out_after : List ℕ) : Type 0 where
+  checked : (name : List ℕ) → command_of words ≡ Some (Check, name) → HasChecked files_tell told name tells out_before out_after → store_after ≡ store_before → HasDone words files_tell told tells store_before store_after out_before out_after
+  ran : (name : List ℕ) → command_of words ≡ Some (Sim, name) → HasRun files_tell told name tells store_before store_after out_before out_after → HasDone words files_tell told tells store_before store_after out_before out_after
 
 -- what a stop leaves: the words are no command and nothing is touched; or a front of `ok`; or what the run leaves
-pub data HasStopped (words : List (List ℕ)) (told : Told) (tells : Bool) (store_before store_after : List (List Tuple)) (out_before out_after : List ℕ) (stop : Stop) : Type 0 where
-  no_command : command_of words ≡ None → stop ≡ Refused NotACommand → store_after ≡ store_before → out_after ≡ out_before → HasStopped words told tells store_before store_after out_before out_after stop
-  checking : (name : List ℕ) → command_of words ≡ Some (Check, name) → (IsTrue tells → GotFront (codes "ok\n") out_before out_after) → store_after ≡ store_before → HasStopped words told tells store_before store_after out_before out_after stop
-  running : (name : List ℕ) → command_of words ≡ Some (Sim, name) → HasLeft told name tells store_before store_after out_before out_after stop → HasStopped words told tells store_before store_after out_before out_after stop
+pub data HasStopped (words : List (List ℕ)) (files_tell : Bool) (told : Told) (tells : Bool) (store_before store_after : List (List Tuple)) (out_before out_after : List ℕ) (stop : Stop) : Type 0 where
+  no_command : command_of words ≡ None → stop ≡ Refused NotACommand → store_after ≡ store_before → out_after ≡ out_before → HasStopped words files_tell told tells store_before store_after out_before out_after stop
+  checking : (name : List ℕ) → command_of words ≡ Some (Check, name) → (IsTrue tells → GotFront (codes "ok\n") out_before out_after) → store_after ≡ store_before → HasStopped words files_tell told tells store_before store_after out_before out_after stop
+  running : (name : List ℕ) → command_of words ≡ Some (Sim, name) → HasLeft files_tell told name tells store_before store_after out_before out_after stop → HasStopped words files_tell told tells store_before store_after out_before out_after stop
 
 -- ---- the status and the line that says why
 

@@ -35,16 +35,17 @@ IsSimStop tells told name folder store output Large = IsTrue tells → (job : Jo
 abbrev pub rows_text : Job → List ℕ
 rows_text job = windows_text 1000000000 1 (mean job)
 
--- A run that was done: its job's windows are stored and printed, where the store began with the first of them.
-pub record HasRun (told : Told) (name : List ℕ) (tells : Bool) (store_before store_after : List (List Tuple)) (out_before out_after : List ℕ) : Type 0 where
+-- A run that was done: its job's windows are stored and printed, where the store began with the first of
+-- them. The job is that of the files, where the folder tells its files.
+pub record HasRun (files_tell : Bool) (told : Told) (name : List ℕ) (tells : Bool) (store_before store_after : List (List Tuple)) (out_before out_after : List ℕ) : Type 0 where
   pub job : Job
-  pub accepted : IsAccepted told name job
+  pub accepted : IsTrue files_tell → IsAccepted told name job
   pub stored : HoldsPrefix job store_before → store_after ≡ mean job
   pub printed : IsTrue tells → HoldsPrefix job store_before → out_after ≡ out_before ++ rows_text job
 
 -- A run that stopped: before it touched anything; while it stored, with nothing printed; or while it
 -- printed, with all stored and a front of the text printed, by one of three causes.
-pub data HasLeft (told : Told) (name : List ℕ) (tells : Bool) (store_before store_after : List (List Tuple)) (out_before out_after : List ℕ) (stop : Stop) : Type 0 where
-  untouched : store_after ≡ store_before → out_after ≡ out_before → HasLeft told name tells store_before store_after out_before out_after stop
-  storing : (job : Job) → IsAccepted told name job → (HoldsPrefix job store_before → HoldsPrefix job store_after) → out_after ≡ out_before → HasLeft told name tells store_before store_after out_before out_after stop
-  printing : (job : Job) → IsAccepted told name job → (HoldsPrefix job store_before → store_after ≡ mean job) → (IsTrue tells → HoldsPrefix job store_before → GotFront (rows_text job) out_before out_after) → IsPrintStop ⊤ ⊤ stop → HasLeft told name tells store_before store_after out_before out_after stop
+pub data HasLeft (files_tell : Bool) (told : Told) (name : List ℕ) (tells : Bool) (store_before store_after : List (List Tuple)) (out_before out_after : List ℕ) (stop : Stop) : Type 0 where
+  untouched : store_after ≡ store_before → out_after ≡ out_before → HasLeft files_tell told name tells store_before store_after out_before out_after stop
+  storing : (job : Job) → (IsTrue files_tell → IsAccepted told name job) → (HoldsPrefix job store_before → HoldsPrefix job store_after) → out_after ≡ out_before → HasLeft files_tell told name tells store_before store_after out_before out_after stop
+  printing : (job : Job) → (IsTrue files_tell → IsAccepted told name job) → (HoldsPrefix job store_before → store_after ≡ mean job) → (IsTrue tells → HoldsPrefix job store_before → GotFront (rows_text job) out_before out_after) → IsPrintStop ⊤ ⊤ stop → HasLeft files_tell told name tells store_before store_after out_before out_after stop

@@ -34,7 +34,7 @@ fn check<F: Folder, O: Out>(
     name: &str,
     out: &mut O,
 ) -> Result<(), Stop>
-    ensures done { IsTrue F.tells → OnOk result (HasChecked (F.told files.old) name.now O.tells (O.written out.old) (O.written out.new)) }
+    ensures done { OnOk result (HasChecked F.tells (F.told files.old) name.now O.tells (O.written out.old) (O.written out.new)) }
     ensures left { IfErr result (λ _. IsTrue O.tells → GotFront (codes "ok\n") (O.written out.old) (O.written out.new)) }
     ensures stop { IfErr result (IsCheckStop F.tells (F.told files.old) name.now (Rose (F.faults files.old) (F.faults files.new)) (Rose (O.faults out.old) (O.faults out.new))) }
 {
@@ -54,10 +54,10 @@ fn act<F: Folder, K: Keeper, O: Out>(
     out: &mut O,
 ) -> Result<(), Stop>
     requires { IsTrue (K.sound keeper.old) }
-    ensures done { IsTrue F.tells → IsTrue K.tells →
-        OnOk result (HasDone (map string_bytes words.now) (F.told files.old) O.tells (K.stored keeper.old) (K.stored keeper.new) (O.written out.old) (O.written out.new)) }
-    ensures left { IsTrue F.tells → IsTrue K.tells →
-        IfErr result (HasStopped (map string_bytes words.now) (F.told files.old) O.tells (K.stored keeper.old) (K.stored keeper.new) (O.written out.old) (O.written out.new)) }
+    ensures done { IsTrue K.tells →
+        OnOk result (HasDone (map string_bytes words.now) F.tells (F.told files.old) O.tells (K.stored keeper.old) (K.stored keeper.new) (O.written out.old) (O.written out.new)) }
+    ensures left { IsTrue K.tells →
+        IfErr result (HasStopped (map string_bytes words.now) F.tells (F.told files.old) O.tells (K.stored keeper.old) (K.stored keeper.new) (O.written out.old) (O.written out.new)) }
     ensures stop { IfErr result (IsStop (map string_bytes words.now) F.tells (F.told files.old) (Rose (F.faults files.old) (F.faults files.new)) (Rose (K.faults keeper.old) (K.faults keeper.new)) (Rose (O.faults out.old) (O.faults out.new))) }
 {
     match command(words) {
@@ -84,10 +84,10 @@ pub fn apex_plain<F: Folder, K: Keeper, O: Out, E: Out>(
     err: &mut E,
 ) -> Ended<K>
     requires { IsTrue (K.sound devices.keeper) }
-    ensures done { IsTrue F.tells → IsTrue K.tells →
-        OnOk result.end (HasDone (map string_bytes words.now) (F.told files.old) O.tells (K.stored devices.keeper) (K.stored result.devices.keeper) (O.written out.old) (O.written out.new)) }
-    ensures left { IsTrue F.tells → IsTrue K.tells →
-        IfErr result.end (HasStopped (map string_bytes words.now) (F.told files.old) O.tells (K.stored devices.keeper) (K.stored result.devices.keeper) (O.written out.old) (O.written out.new)) }
+    ensures done { IsTrue K.tells →
+        OnOk result.end (HasDone (map string_bytes words.now) F.tells (F.told files.old) O.tells (K.stored devices.keeper) (K.stored result.devices.keeper) (O.written out.old) (O.written out.new)) }
+    ensures left { IsTrue K.tells →
+        IfErr result.end (HasStopped (map string_bytes words.now) F.tells (F.told files.old) O.tells (K.stored devices.keeper) (K.stored result.devices.keeper) (O.written out.old) (O.written out.new)) }
     ensures stop { IfErr result.end (IsStop (map string_bytes words.now) F.tells (F.told files.old) (Rose (F.faults files.old) (F.faults files.new)) (Rose (K.faults devices.keeper) (K.faults result.devices.keeper)) (Rose (O.faults out.old) (O.faults out.new))) }
     ensures status { result.status ≡ status_after result.end }
     ensures said { IsTrue E.tells → HasSaid (line_after result.end) (Rose (E.faults err.old) (E.faults err.new)) (E.written err.old) (E.written err.new) }

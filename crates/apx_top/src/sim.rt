@@ -18,10 +18,10 @@ pub(crate) fn sim<F: Folder, K: Keeper, O: Out>(
     out: &mut O,
 ) -> Result<(), Stop>
     requires { IsTrue (K.sound keeper.old) }
-    ensures done { IsTrue F.tells → IsTrue K.tells →
-        OnOk result (HasRun (F.told files.old) name.now O.tells (K.stored keeper.old) (K.stored keeper.new) (O.written out.old) (O.written out.new)) }
-    ensures left { IsTrue F.tells → IsTrue K.tells →
-        IfErr result (HasLeft (F.told files.old) name.now O.tells (K.stored keeper.old) (K.stored keeper.new) (O.written out.old) (O.written out.new)) }
+    ensures done { IsTrue K.tells →
+        OnOk result (HasRun F.tells (F.told files.old) name.now O.tells (K.stored keeper.old) (K.stored keeper.new) (O.written out.old) (O.written out.new)) }
+    ensures left { IsTrue K.tells →
+        IfErr result (HasLeft F.tells (F.told files.old) name.now O.tells (K.stored keeper.old) (K.stored keeper.new) (O.written out.old) (O.written out.new)) }
     ensures stop { IfErr result (IsSimStop F.tells (F.told files.old) name.now (Rose (F.faults files.old) (F.faults files.new)) (Rose (K.faults keeper.old) (K.faults keeper.new)) (Rose (O.faults out.old) (O.faults out.new))) }
 {
     let dag = application(alloc, files, name)?;

@@ -17,22 +17,22 @@ returns-in_err-inputs-clause-stop g c =
     c.in_ok-dag.ensures.told c.in_ok-dag.ensures.later c.in_ok-dag.ensures.ok c.in_err-inputs.ensures.stop)
 
 pub returns-in_err-store_all-clause-left : goal.returns-in_err-store_all-clause-left
-returns-in_err-store_all-clause-left g c = λ tf tk.
+returns-in_err-store_all-clause-left g c = λ tk.
     let p = err_from_is_err_and c.from_residual-in_err-store_all.result c.from_residual-in_err-store_all.ensures.1 in
     let job = job_of c.in_ok-dag.dag c.deref-2.result.now in
     rw (p.1, p.2)
-    (storing job (accepted-of _ _ _ _ _ c.in_ok-dag.ensures.told (c.in_ok-dag.ensures.ok tf) (subst (λ (xs : List (Option Input)). AreInputs (g.F.Folder.told c.application.new.files) c.in_ok-dag.dag xs) (sym c.deref-2.ensures.value) (c.in_ok-inputs.ensures.ok tf))) (c.store_all.ensures.prefix tk) refl)
+    (storing job (λ tf. accepted-of _ _ _ _ _ c.in_ok-dag.ensures.told (c.in_ok-dag.ensures.ok tf) (subst (λ (xs : List (Option Input)). AreInputs (g.F.Folder.told c.application.new.files) c.in_ok-dag.dag xs) (sym c.deref-2.ensures.value) (c.in_ok-inputs.ensures.ok tf))) (c.store_all.ensures.prefix tk) refl)
 
 pub returns-clause-done : goal.returns-clause-done
-returns-clause-done g c = λ tf tk.
+returns-clause-done g c = λ tk.
     let job = job_of c.in_ok-dag.dag c.deref-2.result.now in
-    run-done job _ _ g.O.Out.tells _ _ _ _ _ c.window_count-windows.result (c.window_count-windows.ensures.count ∙ ap windows_of (c.deref.ensures.value ∙ sym c.deref-2.ensures.value))
-    (accepted-of _ _ _ _ _ c.in_ok-dag.ensures.told (c.in_ok-dag.ensures.ok tf) (subst (λ (xs : List (Option Input)). AreInputs (g.F.Folder.told c.application.new.files) c.in_ok-dag.dag xs) (sym c.deref-2.ensures.value) (c.in_ok-inputs.ensures.ok tf)))
+    run-done job g.F.Folder.tells _ _ g.O.Out.tells _ _ _ _ _ c.window_count-windows.result (c.window_count-windows.ensures.count ∙ ap windows_of (c.deref.ensures.value ∙ sym c.deref-2.ensures.value))
+    (λ tf. accepted-of _ _ _ _ _ c.in_ok-dag.ensures.told (c.in_ok-dag.ensures.ok tf) (subst (λ (xs : List (Option Input)). AreInputs (g.F.Folder.told c.application.new.files) c.in_ok-dag.dag xs) (sym c.deref-2.ensures.value) (c.in_ok-inputs.ensures.ok tf)))
     (c.in_ok-store_all.ensures.all tk) c.print_all.ensures.stored c.print_all.result (c.print_all.ensures.written tk)
 
 pub returns-clause-left : goal.returns-clause-left
-returns-clause-left g c = λ tf tk.
+returns-clause-left g c = λ tk.
     let job = job_of c.in_ok-dag.dag c.deref-2.result.now in
-    run-left job _ _ g.O.Out.tells _ _ _ _ _ c.window_count-windows.result (c.window_count-windows.ensures.count ∙ ap windows_of (c.deref.ensures.value ∙ sym c.deref-2.ensures.value))
-    (accepted-of _ _ _ _ _ c.in_ok-dag.ensures.told (c.in_ok-dag.ensures.ok tf) (subst (λ (xs : List (Option Input)). AreInputs (g.F.Folder.told c.application.new.files) c.in_ok-dag.dag xs) (sym c.deref-2.ensures.value) (c.in_ok-inputs.ensures.ok tf)))
+    run-left job g.F.Folder.tells _ _ g.O.Out.tells _ _ _ _ _ c.window_count-windows.result (c.window_count-windows.ensures.count ∙ ap windows_of (c.deref.ensures.value ∙ sym c.deref-2.ensures.value))
+    (λ tf. accepted-of _ _ _ _ _ c.in_ok-dag.ensures.told (c.in_ok-dag.ensures.ok tf) (subst (λ (xs : List (Option Input)). AreInputs (g.F.Folder.told c.application.new.files) c.in_ok-dag.dag xs) (sym c.deref-2.ensures.value) (c.in_ok-inputs.ensures.ok tf)))
     (c.in_ok-store_all.ensures.all tk) c.print_all.ensures.stored _ _ c.print_all.result (c.print_all.ensures.written tk) c.print_all.ensures.stop
