@@ -161,6 +161,9 @@ application_decided told name = record {
 }
 
 -- a file is one application
+pub application-or-refusal : (told : Told) (name : List ℕ) (nodes : List Node) (r : Refusal) → IsApplication told name nodes → IsApplicationRefusal told name r → ⊥
+application-or-refusal told name = let decided = application_decided told name in decided.apart
+
 pub application-unique : (told : Told) (name : List ℕ) (nodes nodes2 : List Node) → IsApplication told name nodes → IsApplication told name nodes2 → nodes ≡ nodes2
 application-unique told name = (application_decided told name).accepted
 

@@ -1,15 +1,20 @@
 -- What a command did is what the words asked for.
-use Rattle.std.proofs.Common.{◌≡◌, ℕ, inl, inr, List, ◌++◌, sym, Bool, IsTrue, IfErr, OnOk, codes}
+use Rattle.std.proofs.Common.{◌≡◌, ℕ, inl, inr, List, [], ◌++◌, sym, ap, ◌∙◌, subst, Bool, IsTrue, IfErr, OnOk, codes}
 use Rattle.std.specs.Prelude.{Result, Ok, Err, ⊤, Option, Some, None}
 use Rattle.apx_tuple.specs.declared.tuple.Tuple.{Tuple}
 use Rattle.apx_device.specs.Out.{GotFront}
 use Rattle.apx_load.specs.declared.stop.Stop.{Stop}
 use Rattle.apx_load.specs.declared.stop.Stop.TheVariants.{Refused, CannotRead, StoreFailed, OutputFailed, Memory, Large}
+use Rattle.apx_load.specs.declared.refusal.Refusal.{Refusal}
+use Rattle.apx_load.specs.declared.words.Action.{Action}
 use Rattle.apx_load.specs.declared.words.Action.TheVariants.{Check, Sim}
-use Rattle.apx_load.specs.Refusals.{Told, of_application, of_inputs}
+use Rattle.apx_load.specs.Refusals.{Told, IsApplicationRefusal, IsJob, IsRefusal, of_words, of_application, of_inputs}
+use Rattle.apx_load.proofs.Unique.{application-or-refusal, refusal-unique, job-or-refusal, job-unique}
+use Rattle.apx_pass.specs.Large.{IsLargeJob}
+use Rattle.apx_pass.specs.Pass.{Job}
 use Rattle.apx_load.specs.Words.{command_of}
-use Rattle.apx_top.specs.Run.{HasRun, HasLeft, IsSimStop}
-use Rattle.apx_top.specs.Plain.{HasChecked, IsCheckStop, IsStop, HasDone, HasStopped, checked, ran, checking, running}
+use Rattle.apx_top.specs.Run.{HasRun, HasLeft, IsAccepted, IsSimStop}
+use Rattle.apx_top.specs.Plain.{HasChecked, IsCheckStop, IsAcceptedBy, of_check, of_sim, IsStop, IsEnd, HasRefused, IsComplete, HasDone, HasStopped, checked, ran, checking, running}
 
 module _ (words : List (List ℕ)) (told : Told) (name : List ℕ) where
   module _ (files_tell tells : Bool) (store_before store_after : List (List Tuple)) (out_before out_after : List ℕ) where
@@ -34,13 +39,16 @@ module _ (words : List (List ℕ)) (told : Told) (name : List ℕ) where
     check-cause command (Refused refusal) is = λ t. of_application Check name refusal command (is t)
     check-cause command (CannotRead file) is = is
     check-cause command StoreFailed is = absurd is
-    check-cause command OutputFailed is = is
+    check-cause command OutputFailed is = (is.0, λ t. let found = is.1 t in of_check name found.0 command found.1)
     check-cause command Memory is = tt
     check-cause command Large is = absurd is
 
-    pub check-stop : command_of words ≡ Some (Check, name) → (r : Result ⊤ Stop) → IfErr r (IsCheckStop tells told name folder output) → IfErr r (IsStop words tells told folder store output)
-    check-stop command (Ok v) is = tt
-    check-stop command (Err stop) is = check-cause command stop is
+    pub check-end : command_of words ≡ Some (Check, name) → (output_tells : Bool) (out_before out_after : List ℕ) (r : Result ⊤ Stop) → OnOk r (HasChecked tells told name output_tells out_before out_after) → IfErr r (IsCheckStop tells told name folder output) → IsEnd words tells told folder store output r
+    check-end command output_tells out_before out_after (Ok v) done is = λ t. let found = done.accepted t in of_check name found.0 command found.1
+    check-end command output_tells out_before out_after (Err stop) done is = check-cause command stop is
+
+    job-of : command_of words ≡ Some (Sim, name) → (job : Job) → IsAccepted told name job → IsJob words told job
+    job-of command job accepted = record { name = name; command = command; application = accepted.application; inputs = accepted.inputs }
 
     sim-cause : command_of words ≡ Some (Sim, name) → (stop : Stop) → IsSimStop tells told name folder store output stop → IsStop words tells told folder store output stop
     sim-cause command (Refused refusal) is = λ t. elim (is t) [
@@ -48,11 +56,53 @@ module _ (words : List (List ℕ)) (told : Told) (name : List ℕ) where
         | inr inputs ↦ of_inputs name inputs.0.nodes refusal command inputs.1 inputs.2
     ]
     sim-cause command (CannotRead file) is = is
-    sim-cause command StoreFailed is = is
-    sim-cause command OutputFailed is = is
+    sim-cause command StoreFailed is = (is.0, λ t. let found = is.1 t in of_sim found.0 (job-of command found.0 found.1))
+    sim-cause command OutputFailed is = (is.0, λ t. let found = is.1 t in of_sim found.0 (job-of command found.0 found.1))
     sim-cause command Memory is = tt
-    sim-cause command Large is = λ t. let found = is t in (found.0, record { name = name; command = command; application = found.1.application; inputs = found.1.inputs }, found.2)
+    sim-cause command Large is = λ t. let found = is t in (found.0, job-of command found.0 found.1, found.2)
 
-    pub sim-stop : command_of words ≡ Some (Sim, name) → (r : Result ⊤ Stop) → IfErr r (IsSimStop tells told name folder store output) → IfErr r (IsStop words tells told folder store output)
-    sim-stop command (Ok v) is = tt
-    sim-stop command (Err stop) is = sim-cause command stop is
+    pub sim-end : command_of words ≡ Some (Sim, name) → (r : Result ⊤ Stop) → (IsTrue tells → OnOk r ((job : Job) × IsAccepted told name job)) → IfErr r (IsSimStop tells told name folder store output) → IsEnd words tells told folder store output r
+    sim-end command (Ok v) accepted is = λ t. let found = accepted t in of_sim found.0 (job-of command found.0 found.1)
+    sim-end command (Err stop) accepted is = sim-cause command stop is
+
+-- ---- what the cause of an end says of refused and of accepted words and files
+
+module _ (words : List (List ℕ)) (told : Told) where
+  apart : (r : Refusal) → IsAcceptedBy words told → IsRefusal words told r → ⊥
+  apart r (of_sim job is) refused = job-or-refusal words told job r is refused
+  apart r (of_check name nodes command is) (of_words none) = cc
+  apart r (of_check name nodes command is) (of_application action file refusal other refused) =
+      let same : Some (Check, name) ≡ Some (action, file) = sym command ∙ other in
+      let file_is : name ≡ file = ap named same in
+      application-or-refusal told name nodes refusal is (subst (λ (f : List ℕ). IsApplicationRefusal told f refusal) (sym file_is) refused)
+    where
+      named : Option (Action × List ℕ) → List ℕ
+      named (Some found) = found.1
+      named None = []
+  apart r (of_check name nodes command is) (of_inputs file more refusal other application refused) = subst IsCheckOf (sym command ∙ other) tt
+    where
+      IsCheckAction : Action → Type 0
+      IsCheckAction Check = ⊤
+      IsCheckAction Sim = ⊥
+      IsCheckOf : Option (Action × List ℕ) → Type 0
+      IsCheckOf (Some found) = IsCheckAction found.0
+      IsCheckOf None = ⊥
+
+  module _ (tells : Bool) (folder store output : Type 0) (t : IsTrue tells) where
+    pub refused-of : (end : Result ⊤ Stop) → IsEnd words tells told folder store output end → (r : Refusal) → IsRefusal words told r → HasRefused folder r end
+    refused-of (Ok v) is r refused = apart r (is t) refused
+    refused-of (Err (Refused found)) is r refused = refusal-unique words told found r (is t) refused
+    refused-of (Err (CannotRead file)) is r refused = is
+    refused-of (Err StoreFailed) is r refused = apart r (is.1 t) refused
+    refused-of (Err OutputFailed) is r refused = apart r (is.1 t) refused
+    refused-of (Err Memory) is r refused = tt
+    refused-of (Err Large) is r refused = let found = is t in job-or-refusal words told found.0 r found.1 refused
+
+    pub complete-of : (end : Result ⊤ Stop) → IsEnd words tells told folder store output end → (job : Job) → IsJob words told job → (folder → ⊥) → (store → ⊥) → (output → ⊥) → IsComplete job end
+    complete-of (Ok v) is job accepted a b c = tt
+    complete-of (Err (Refused found)) is job accepted a b c = job-or-refusal words told job found accepted (is t)
+    complete-of (Err (CannotRead file)) is job accepted a b c = a is
+    complete-of (Err StoreFailed) is job accepted a b c = b is.0
+    complete-of (Err OutputFailed) is job accepted a b c = c is.0
+    complete-of (Err Memory) is job accepted a b c = tt
+    complete-of (Err Large) is job accepted a b c = let found = is t in subst IsLargeJob (job-unique words told found.0 job found.1 accepted) found.2

@@ -15,7 +15,7 @@ use Rattle.apx_load.specs.Stops.{IsLoadStop}
 use Rattle.apx_top.specs.Print.{IsPrintStop}
 use Rattle.apx_top.specs.Run.{IsAccepted, IsSimStop, HasRun, HasLeft, storing, printing, rows_text}
 use Rattle.apx_top.specs.Sent.{HasWritten}
-use Rattle.apx_top.specs.Store.{HoldsPrefix}
+use Rattle.apx_top.specs.Store.{HoldsPrefix, IsStoreStop}
 use Rattle.apx_top.proofs.Storing.{length-mean_up_to}
 
 -- a stop at an input is one of the run
@@ -38,6 +38,39 @@ weaker A B Memory is = tt
 weaker A B Large is = absurd is
 weaker A B (Refused refusal) is = absurd is
 weaker A B (CannotRead name) is = absurd is
+
+-- a stop while storing is one of the run
+pub of-store : (tells : Bool) (told : Told) (name : List ℕ) (job : Job) (folder store more output : Type 0) (stop : Stop) → (store → more) → (IsTrue tells → IsAccepted told name job) → IsStoreStop job store stop → IsSimStop tells told name folder more output stop
+of-store tells told name job folder store more output StoreFailed longer accepted is = (longer is, λ t. (job, accepted t))
+of-store tells told name job folder store more output Large longer accepted is = λ t. (job, accepted t, is)
+of-store tells told name job folder store more output Memory longer accepted is = tt
+of-store tells told name job folder store more output (Refused refusal) longer accepted is = absurd is
+of-store tells told name job folder store more output (CannotRead file) longer accepted is = absurd is
+of-store tells told name job folder store more output OutputFailed longer accepted is = absurd is
+
+print-cause : (tells : Bool) (told : Told) (name : List ℕ) (job : Job) (folder store more output : Type 0) (stop : Stop) → (store → more) → (IsTrue tells → IsAccepted told name job) → IsPrintStop store output stop → IsSimStop tells told name folder more output stop
+print-cause tells told name job folder store more output StoreFailed longer accepted is = (longer is, λ t. (job, accepted t))
+print-cause tells told name job folder store more output OutputFailed longer accepted is = (is, λ t. (job, accepted t))
+print-cause tells told name job folder store more output Memory longer accepted is = tt
+print-cause tells told name job folder store more output Large longer accepted is = absurd is
+print-cause tells told name job folder store more output (Refused refusal) longer accepted is = absurd is
+print-cause tells told name job folder store more output (CannotRead file) longer accepted is = absurd is
+
+-- a stop while printing is one of the run
+pub of-print : (tells : Bool) (told : Told) (name : List ℕ) (job : Job) (folder store more output : Type 0) (r : Result ⊤ Stop) → (store → more) → (IsTrue tells → IsAccepted told name job) → IfErr r (IsPrintStop store output) → IfErr r (IsSimStop tells told name folder more output)
+of-print tells told name job folder store more output (Ok v) longer accepted is = tt
+of-print tells told name job folder store more output (Err stop) longer accepted is = print-cause tells told name job folder store more output stop longer accepted is
+
+-- what holds holds after an Ok
+pub always : (P : Type 0) (r : Result ⊤ Stop) → P → OnOk r P
+always P (Ok v) p = p
+always P (Err stop) p = tt
+
+pub Rose-later : (before mid now : ℕ) → before ≤ mid → Rose mid now → Rose before now
+Rose-later before mid now later rose = omega (arith, rose)
+
+pub Rose-long : (before mid now : ℕ) → mid ≤ now → Rose before mid → Rose before now
+Rose-long before mid now later rose = omega (arith, rose)
 
 take-length : {X : Type 0} (xs : List X) → take (length xs) xs ≡ xs
 take-length [] = refl

@@ -7,6 +7,7 @@ use Rattle.apx_pass.specs.Large.{IsLargeJob}
 use Rattle.apx_pass.specs.Pass.{Job}
 use Rattle.apx_load.specs.declared.stop.Stop.{Stop}
 use Rattle.apx_load.specs.declared.stop.Stop.TheVariants.{Refused, CannotRead, StoreFailed, OutputFailed, Memory, Large}
+use Rattle.apx_load.specs.declared.refusal.Refusal.{Refusal}
 use Rattle.apx_load.specs.declared.refusal.Refusal.TheVariants.{NotACommand}
 use Rattle.apx_load.specs.declared.words.Action.TheVariants.{Check, Sim}
 use Rattle.apx_load.specs.Refusals.{Told, IsApplication, IsApplicationRefusal, IsRefusal, IsJob}
@@ -26,21 +27,52 @@ abbrev pub IsCheckStop : Bool → Told → List ℕ → Type 0 → Type 0 → St
 IsCheckStop tells told name folder output (Refused refusal) = IsTrue tells → IsApplicationRefusal told name refusal
 IsCheckStop tells told name folder output (CannotRead file) = folder
 IsCheckStop tells told name folder output StoreFailed = ⊥
-IsCheckStop tells told name folder output OutputFailed = output
+IsCheckStop tells told name folder output OutputFailed = output × (IsTrue tells → (nodes : List Node) × IsApplication told name nodes)
 IsCheckStop tells told name folder output Memory = ⊤
 IsCheckStop tells told name folder output Large = ⊥
 
 -- ---- both commands
 
+-- the words and the files that they need are accepted
+pub data IsAcceptedBy (words : List (List ℕ)) (told : Told) : Type 0 where
+  of_check : (name : List ℕ) (nodes : List Node) → command_of words ≡ Some (Check, name) → IsApplication told name nodes → IsAcceptedBy words told
+  of_sim : (job : Job) → IsJob words told job → IsAcceptedBy words told
+
 -- The cause of a stop: the first refusal of the words and files, where the folder tells its files; a fault
 -- of the folder, the store or the output, which then has counted it; a size of the job; or want of memory.
+-- The store and the output fail only after the words and files were accepted.
 abbrev pub IsStop : List (List ℕ) → Bool → Told → Type 0 → Type 0 → Type 0 → Stop → Type 0
 IsStop words tells told folder store output (Refused refusal) = IsTrue tells → IsRefusal words told refusal
 IsStop words tells told folder store output (CannotRead name) = folder
-IsStop words tells told folder store output StoreFailed = store
-IsStop words tells told folder store output OutputFailed = output
+IsStop words tells told folder store output StoreFailed = store × (IsTrue tells → IsAcceptedBy words told)
+IsStop words tells told folder store output OutputFailed = output × (IsTrue tells → IsAcceptedBy words told)
 IsStop words tells told folder store output Memory = ⊤
 IsStop words tells told folder store output Large = IsTrue tells → (job : Job) × IsJob words told job × IsLargeJob job
+
+-- an end has its cause: accepted words and files, or that of the stop
+abbrev pub IsEnd : List (List ℕ) → Bool → Told → Type 0 → Type 0 → Type 0 → Result ⊤ Stop → Type 0
+IsEnd words tells told folder store output (Ok _) = IsTrue tells → IsAcceptedBy words told
+IsEnd words tells told folder store output (Err stop) = IsStop words tells told folder store output stop
+
+-- how it ends where this is refused: with that, a fault of the folder, or want of memory
+abbrev pub HasRefused : Type 0 → Refusal → Result ⊤ Stop → Type 0
+HasRefused folder refusal (Ok _) = ⊥
+HasRefused folder refusal (Err (Refused found)) = found ≡ refusal
+HasRefused folder refusal (Err (CannotRead name)) = folder
+HasRefused folder refusal (Err StoreFailed) = ⊥
+HasRefused folder refusal (Err OutputFailed) = ⊥
+HasRefused folder refusal (Err Memory) = ⊤
+HasRefused folder refusal (Err Large) = ⊥
+
+-- how it ends where this job is accepted and no device fails: it is done, too large, or short of memory
+abbrev pub IsComplete : Job → Result ⊤ Stop → Type 0
+IsComplete job (Ok _) = ⊤
+IsComplete job (Err (Refused refusal)) = ⊥
+IsComplete job (Err (CannotRead name)) = ⊥
+IsComplete job (Err StoreFailed) = ⊥
+IsComplete job (Err OutputFailed) = ⊥
+IsComplete job (Err Memory) = ⊤
+IsComplete job (Err Large) = IsLargeJob job
 
 -- all that the words ask for is done
 pub data HasDone (words : List (List ℕ)) (files_tell : Bool) (told : Told) (tells : Bool) (store_before store_after : List (List Tuple)) (out_before out_after : List ℕ) : Type 0 where

@@ -22,12 +22,13 @@ abbrev pub IsFilesRefusal : Told → List ℕ → Refusal → Type 0
 IsFilesRefusal told name refusal = IsApplicationRefusal told name refusal ⊎ ((job : Job) × IsApplication told name job.nodes × IsInputsRefusal told job.nodes refusal)
 
 -- The cause of a stop: a refusal of a file that the folder tells; a fault of the folder, the store or the
--- output, which then has counted it; a size of the job; or want of memory, which has no cause.
+-- output, which then has counted it; a size of the job; or want of memory, which has no cause. The store and
+-- the output fail only after all files were accepted.
 abbrev pub IsSimStop : Bool → Told → List ℕ → Type 0 → Type 0 → Type 0 → Stop → Type 0
 IsSimStop tells told name folder store output (Refused refusal) = IsTrue tells → IsFilesRefusal told name refusal
 IsSimStop tells told name folder store output (CannotRead file) = folder
-IsSimStop tells told name folder store output StoreFailed = store
-IsSimStop tells told name folder store output OutputFailed = output
+IsSimStop tells told name folder store output StoreFailed = store × (IsTrue tells → (job : Job) × IsAccepted told name job)
+IsSimStop tells told name folder store output OutputFailed = output × (IsTrue tells → (job : Job) × IsAccepted told name job)
 IsSimStop tells told name folder store output Memory = ⊤
 IsSimStop tells told name folder store output Large = IsTrue tells → (job : Job) × IsAccepted told name job × IsLargeJob job
 
