@@ -1,5 +1,5 @@
 -- What a command did is what the words asked for.
-use Rattle.std.proofs.Common.{◌≡◌, ℕ, inl, inr, List, [], ◌++◌, sym, ap, ◌∙◌, subst, Bool, IsTrue, IfErr, OnOk, codes}
+use Rattle.std.proofs.Common.{◌≡◌, ℕ, inl, inr, List, [], sym, ap, ◌∙◌, subst, Bool, IsTrue, IfErr, OnOk, codes}
 use Rattle.std.specs.Prelude.{Result, Ok, Err, ⊤, Option, Some, None}
 use Rattle.apx_tuple.specs.declared.tuple.Tuple.{Tuple}
 use Rattle.apx_device.specs.Out.{GotFront}
@@ -52,8 +52,8 @@ module _ (words : List (List ℕ)) (told : Told) (name : List ℕ) where
 
     sim-cause : command_of words ≡ Some (Sim, name) → (stop : Stop) → IsSimStop tells told name folder store output stop → IsStop words tells told folder store output stop
     sim-cause command (Refused refusal) is = λ t. elim (is t) [
-        inl application ↦ of_application Sim name refusal command application
-        | inr inputs ↦ of_inputs name inputs.0.nodes refusal command inputs.1 inputs.2
+      | inl application ↦ of_application Sim name refusal command application
+      | inr inputs ↦ of_inputs name inputs.0.nodes refusal command inputs.1 inputs.2
     ]
     sim-cause command (CannotRead file) is = is
     sim-cause command StoreFailed is = (is.0, λ t. let found = is.1 t in of_sim found.0 (job-of command found.0 found.1))
@@ -84,6 +84,7 @@ module _ (words : List (List ℕ)) (told : Told) where
       IsCheckAction : Action → Type 0
       IsCheckAction Check = ⊤
       IsCheckAction Sim = ⊥
+
       IsCheckOf : Option (Action × List ℕ) → Type 0
       IsCheckOf (Some found) = IsCheckAction found.0
       IsCheckOf None = ⊥

@@ -1,5 +1,5 @@
 -- How much is printed after some windows.
-use Rattle.std.proofs.Common.{◌≡◌, ℕ, suc, zero, ◌+◌, ◌-◌, ◌<◌, ◌≤◌, List, [], ◌∷◌, ◌++◌, length, take, drop, get_or, refl, sym, ap, ◌∙◌, subst, arith, append_assoc, length-take-le, add-one, drop-cons, Option, Some}
+use Rattle.std.proofs.Common.{◌≡◌, ℕ, suc, ◌+◌, ◌-◌, ◌<◌, List, [], ◌∷◌, ◌++◌, length, take, drop, get_or, refl, sym, ap, ◌∙◌, arith, append_assoc, length-take-le, Some}
 use Rattle.std.specs.Prelude.{slice_get, Result, Ok, Err, IsErr, IsTrue, Bool}
 use Rattle.apx_top.specs.Sent.{HasWritten}
 use Rattle.std.proofs.lemmas.List.{take_more, take-take, append-nil, take-append-drop}
@@ -50,10 +50,10 @@ module _ (base : ℕ) (stored : List (List Tuple)) (k : ℕ) (h : k < length sto
   failed n l old now new e f =
       let tail = windows_text base (1 + length (take (k + 1) (take n stored))) (drop (k + 1) (take n stored)) in
       let whole : windows_text base 1 (take n stored) ≡ (windows_text base 1 (take k stored) ++ window_text base (k + 1) (get_or stored k [])) ++ tail
-          = ap (windows_text base 1) (sym (take-append-drop (k + 1) (take n stored)))
-          ∙ windows_text-append base 1 (take (k + 1) (take n stored)) (drop (k + 1) (take n stored))
-          ∙ ap (λ xs. windows_text base 1 xs ++ tail) (take-take (k + 1) n stored (omega arith))
-          ∙ ap (λ t. t ++ tail) one-more in
+      = ap (windows_text base 1) (sym (take-append-drop (k + 1) (take n stored)))
+      ∙ windows_text-append base 1 (take (k + 1) (take n stored)) (drop (k + 1) (take n stored))
+      ∙ ap (λ xs. windows_text base 1 xs ++ tail) (take-take (k + 1) n stored (omega arith))
+      ∙ ap (λ t. t ++ tail) one-more in
       record {
         front = windows_text base 1 (take k stored) ++ f.front;
         rest = f.rest ++ tail;

@@ -1,5 +1,5 @@
 -- What reading, storing and printing say of a run.
-use Rattle.std.proofs.Common.{◌≡◌, ℕ, suc, ◌+◌, ◌<◌, ◌≤◌, inl, inr, List, [], ◌∷◌, ◌++◌, length, take, refl, sym, ap, ◌∙◌, subst, arith, Bool, IsTrue, IfErr, OnOk}
+use Rattle.std.proofs.Common.{◌≡◌, ℕ, ◌≤◌, inr, List, [], ◌∷◌, ◌++◌, length, take, refl, sym, ap, ◌∙◌, subst, arith, Bool, IsTrue, IfErr, OnOk}
 use Rattle.std.specs.Prelude.{Result, Ok, Err, ⊤, Option}
 use Rattle.apx_tuple.specs.declared.tuple.Tuple.{Tuple}
 use Rattle.apx_device.specs.Cause.{Rose}
@@ -13,7 +13,7 @@ use Rattle.apx_load.specs.declared.stop.Stop.TheVariants.{Refused, CannotRead, S
 use Rattle.apx_load.specs.Refusals.{Told, IsApplication, AreInputs, IsInputsRefusal}
 use Rattle.apx_load.specs.Stops.{IsLoadStop}
 use Rattle.apx_top.specs.Print.{IsPrintStop}
-use Rattle.apx_top.specs.Run.{IsAccepted, IsSimStop, HasRun, HasLeft, storing, printing, rows_text}
+use Rattle.apx_top.specs.Run.{IsAccepted, IsSimStop, HasRun, HasLeft, printing, rows_text}
 use Rattle.apx_top.specs.Sent.{HasWritten}
 use Rattle.apx_top.specs.Store.{HoldsPrefix, IsStoreStop}
 use Rattle.apx_top.proofs.Storing.{length-mean_up_to}

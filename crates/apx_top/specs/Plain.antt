@@ -1,5 +1,5 @@
 -- How the program ends, by its words and the files of its folder.
-use Rattle.std.specs.Prelude.{◌≡◌, ℕ, ◌⊎◌, Bool, IsTrue, List, [], ◌++◌, Option, Some, None, Result, Ok, Err, codes, ⊤}
+use Rattle.std.specs.Prelude.{◌≡◌, ℕ, ◌⊎◌, Bool, IsTrue, List, [], ◌++◌, Some, None, Result, Ok, Err, codes, ⊤}
 use Rattle.apx_tuple.specs.declared.tuple.Tuple.{Tuple}
 use Rattle.apx_device.specs.Out.{GotFront}
 use Rattle.apx_pass.specs.Graph.{Node}

@@ -1,5 +1,5 @@
 -- The sink's store during a run.
-use Rattle.std.specs.Prelude.{◌≡◌, ℕ, ◌≤◌, ◌∷◌, [], ◌++◌, ◌⊎◌, List, Result, Ok, Err, ⊤}
+use Rattle.std.specs.Prelude.{◌≡◌, ℕ, ◌≤◌, ◌⊎◌, List, Result, Ok, Err, ⊤}
 use Rattle.apx_tuple.specs.declared.tuple.Tuple.{Tuple}
 use Rattle.apx_pass.specs.Pass.{Job, windows, mean_up_to}
 use Rattle.apx_pass.specs.Large.{IsLargeJob}

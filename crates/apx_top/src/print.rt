@@ -17,12 +17,7 @@ use std::alloc::Global;
 const BASE: u32 = 1_000_000_000;
 
 /// Writes a window's text.
-fn write_window<O: Out>(
-    alloc: Global,
-    window: u32,
-    rows: &[Tuple],
-    out: &mut O,
-) -> Result<(), Stop>
+fn write_window<O: Out>(alloc: Global, window: u32, rows: &[Tuple], out: &mut O) -> Result<(), Stop>
     requires low { 1 ≤ window }
     requires high { window ≤ 20000 }
     ensures written { HasWritten O.tells (text_of 1000000000 window rows.now) result (O.written out.old) (O.written out.new) }

@@ -1,4 +1,4 @@
-use Rattle.std.proofs.Common.{◌≡◌, ◌<◌, ◌≤◌, ◌+◌, ◌-◌, ◌++◌, ℕ, List, length, take, get_or, slice_get, Some, refl, sym, ap, ◌∙◌, subst, arith, append_assoc, [], rules}
+use Rattle.std.proofs.Common.{◌<◌, ◌+◌, ◌-◌, ◌++◌, length, take, get_or, slice_get, refl, sym, ap, ◌∙◌, arith, append_assoc, []}
 use Rattle.apx_pass.specs.Texts.{window_text, windows_text}
 use Rattle.apx_top.proofs.Printing.{none-more, rows-there, one-more, failed, of-error}
 use Rattle.apx_top.proofs.print.print_all.Goals as goal
@@ -19,7 +19,7 @@ returns-in_err-print_window-clause-written g c = λ t l.
     let there = ap (λ s. slice_get s (c.loop-done.done + 1 - 1)) c.loop-done.invariant.stored ∙ rows-there 1000000000 (g.K.Keeper.stored c.args.keeper.now) c.loop-done.done h in
     of-error g.O.Out.tells _ _ _ _ c.from_residual.ensures.0
     (λ o. failed 1000000000 (g.K.Keeper.stored c.args.keeper.now) c.loop-done.done h c.args.windows c.loop-done-test.true _ _ _ (c.loop-done.invariant.written t l o)
-        (c.in_err-print_window.ensures.written t _ there o))
+    (c.in_err-print_window.ensures.written t _ there o))
 
 pub loop-done-preserved : goal.loop-done-preserved
 loop-done-preserved g c = record {

@@ -1,4 +1,3 @@
-use Rattle.std.proofs.Common.{◌≡◌}
 use Rattle.apx_top.proofs.say.say_rule.Goals as goal
 
 pub returns-clause-written : goal.returns-clause-written

@@ -1,4 +1,4 @@
-use Rattle.std.proofs.Common.{◌≡◌, ◌≤◌, ◌+◌, max, IsTrue}
+use Rattle.std.proofs.Common.{◌≡◌, ◌≤◌, max, IsTrue}
 use Rattle.apx_mean.specs.Passing.{job_of}
 use Rattle.apx_top.specs.Loop.{HoldsFirst}
 use Rattle.apx_top.specs.Store.{HoldsPrefix}

@@ -1,4 +1,4 @@
-use Rattle.std.proofs.Common.{◌≡◌, ◌++◌, ◌≤◌, ℕ, List, IsTrue, length}
+use Rattle.std.proofs.Common.{◌≤◌, IsTrue, length}
 use Rattle.apx_top.specs.Sent.{HasSent}
 use Rattle.apx_top.proofs.write.write_all.Given as goal
 
