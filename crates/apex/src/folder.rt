@@ -1,5 +1,5 @@
 // The folder that the system's file names lead to.
-ghost use Rattle.std.specs.Prelude.{◌≡◌, ◌≤◌, ℕ, false, None, vec_len, length, IfOk};
+ghost use Rattle.std.specs.Prelude.{◌≡◌, ◌<◌, ◌≤◌, false, None, length, IfOk, IfSome};
 
 use apx_device::{Folder, ReadRefusal};
 use std::alloc::Global;
@@ -65,9 +65,11 @@ fn read_file<R: Files>(
     }
 }
 
-// All that the reader gives, where it is no more than the limit.
+// All that the reader has left, where it is no more than the limit.
 fn read_to_end<S: Read>(alloc: Global, source: &mut S, limit: usize) -> Result<Vec<u8>, ReadRefusal>
-    ensures { IfOk result (λ bytes. length bytes.items ≤ limit) }
+    ensures within { IfOk result (λ bytes. length bytes.items ≤ limit) }
+    ensures whole { IfOk result (λ bytes. IfSome (S.remaining source.old) (λ all. bytes.items ≡ all)) }
+    ensures long { result ≡ Err ReadRefusal.TooLong → IfSome (S.remaining source.old) (λ all. limit < length all) }
 {
     let mut bytes = Vec::new(alloc);
     let mut piece = [0u8; PIECE];
