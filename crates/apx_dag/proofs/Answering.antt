@@ -1,17 +1,17 @@
 -- What `Dag::of` answers.
-use Rattle.std.proofs.Common.{◌≡◌, ℕ, ◌≤◌, ◌<◌, List, length, get_or, map, Ok, refl, sym, ap, ◌∙◌, arith}
+use Rattle.std.proofs.Common.{◌≡◌, ℕ, ◌<◌, List, length, get_or, map, Ok, refl, sym, ap, ◌∙◌, arith}
 use Rattle.std.specs.Global.{Vec}
 use Rattle.std.proofs.lemmas.List.{length-map}
 use Rattle.apx_json.specs.Texts.{Operator, Application}
 use Rattle.apx_pass.specs.Graph.{Node}
 use Rattle.apx_dag.specs.declared.link.Link.{Link}
 use Rattle.apx_dag.specs.Dag.{IsDag, nodes_in, key_texts, node_names}
-use Rattle.apx_dag.specs.Graph.{IsRefused, cycle, graph_of, sources_in, sources_of, name_at}
+use Rattle.apx_dag.specs.Graph.{IsRefused, cycle, graph_of, sources_in, sources_of}
 use Rattle.apx_dag.specs.Marks.{IsFirstLoop}
 use Rattle.apx_dag.specs.Order.{IsOrder}
 use Rattle.apx_dag.specs.Ports.{link_of, links_of}
 use Rattle.apx_dag.specs.Rules.{before_cycles, after_cycles}
-use Rattle.apx_dag.proofs.Inversions.{HoldsBefore, holds_before, holds_after}
+use Rattle.apx_dag.proofs.Inversions.{holds_before, holds_after}
 use Rattle.apx_dag.proofs.Sources.{few_operators, name_read, graph_sources}
 use Rattle.apx_dag.proofs.Validity.{is_graph}
 

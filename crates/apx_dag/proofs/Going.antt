@@ -1,14 +1,14 @@
 -- An order in which the operators can step has every operator, and each behind those that it reads.
-use Rattle.std.proofs.Common.{◌≡◌, ℕ, ◌+◌, ◌<◌, ◌≤◌, Bool, true, false, List, length, take, map, get_or, slice_index, slice_index_or, Contains, Option, Some, None, refl, sym, ap, ◌∙◌, subst, arith, inl, inr, get_or-take, length-take}
+use Rattle.std.proofs.Common.{◌≡◌, ℕ, ◌<◌, Bool, true, false, List, length, take, slice_index, Contains, Some, None, refl, sym, ◌∙◌, subst, arith, inl, inr, get_or-take, length-take}
 use Rattle.std.specs.Prelude.{⊤, if◌then◌else◌}
 use Rattle.std.specs.Bool.{MatchBool}
 use Rattle.std.proofs.lemmas.List.{get_or-map, length-map, get_or_default}
 use Rattle.apx_tuple.specs.Kind.{has_right}
 use Rattle.apx_pass.specs.Graph.{Role, Input, Inner, Sink, Node, node_at}
-use Rattle.apx_pass.specs.Order.{OfPorts, EachSource, IsBefore, IsOrder as CanGo}
+use Rattle.apx_pass.specs.Order.{OfPorts, IsBefore, IsOrder as CanGo}
 use Rattle.apx_dag.specs.declared.link.Link.{Link}
 use Rattle.apx_dag.specs.Graph.{link_by, sources_of, sources_in}
-use Rattle.apx_dag.specs.Order.{link_at, IsSource, Feeds, IsOrder}
+use Rattle.apx_dag.specs.Order.{link_at, IsSource, IsOrder}
 
 before-from-take : (order : List ℕ) (k a : ℕ) → Contains (take k order) a → IsBefore order k a
 before-from-take order k a c =

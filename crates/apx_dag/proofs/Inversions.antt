@@ -1,5 +1,5 @@
 -- What holds where the checks refuse nothing.
-use Rattle.std.proofs.Common.{◌≡◌, ℕ, List, Option, Some, None, Ok, Err, refl, ap}
+use Rattle.std.proofs.Common.{◌≡◌, ℕ, List, Option, Some, None, Ok, Err, refl}
 use Rattle.std.specs.Prelude.{⊤}
 use Rattle.apx_json.specs.Texts.{Application}
 use Rattle.apx_dag.specs.Checks.{Checked, ◌>>=◌, unless}

@@ -1,10 +1,10 @@
 -- Setting one mark after the other.
-use Rattle.std.proofs.Common.{◌≡◌, ◌≢◌, ℕ, zero, suc, ◌+◌, ◌≤◌, ◌<◌, Bool, true, false, List, [], ◌∷◌, length, get_or, set, replicate, ◌⊎◌, inl, inr, refl, sym, ap, subst, ◌∙◌, arith}
+use Rattle.std.proofs.Common.{◌≡◌, ℕ, zero, suc, ◌<◌, Bool, true, false, List, [], ◌∷◌, length, set, replicate, ◌⊎◌, inl, inr, refl, sym, ap, subst, ◌∙◌, arith}
 use Rattle.std.proofs.lemmas.Bool.{cases_eq}
 use Rattle.std.proofs.lemmas.List.{get_or-set_same, get_or-set_other, get_or_past, length-replicate}
 use Rattle.apx_dag.specs.declared.link.Link.{Link}
-use Rattle.apx_dag.specs.Order.{IsSource, Feeds, IsWithin, link_at, Reaches, at_once, through}
-use Rattle.apx_dag.specs.Marks.{mark_at, AreMarked, IsUpstreamNext, IsUpstreamDone}
+use Rattle.apx_dag.specs.Order.{Feeds, IsWithin, Reaches, at_once, through}
+use Rattle.apx_dag.specs.Marks.{mark_at, IsUpstreamNext, IsUpstreamDone}
 
 -- how many marks are not set
 abbrev pub unset : List Bool → ℕ

@@ -1,11 +1,11 @@
 -- Placing one operator after the other, the earliest that is ready each time.
-use Rattle.std.proofs.Common.{◌≡◌, ◌≢◌, ℕ, suc, ◌+◌, ◌-◌, ◌≤◌, ◌<◌, Bool, true, false, List, [], ◌∷◌, ◌++◌, length, get_or, set, take, replicate, Contains, ◌⊎◌, inl, inr, refl, sym, ap, subst, ◌∙◌, arith, length-append, length-set}
+use Rattle.std.proofs.Common.{◌≡◌, ℕ, ◌+◌, ◌≤◌, ◌<◌, Bool, true, false, List, [], ◌∷◌, ◌++◌, length, get_or, set, take, replicate, Contains, inl, inr, refl, ◌∙◌, arith, length-append, length-set}
 use Rattle.std.proofs.lemmas.Bool.{cases_eq}
 use Rattle.std.proofs.lemmas.List.{take-append-le, get_or_append_left, length-replicate}
 use Rattle.std.proofs.lemmas.List.Elements.{Contains-append_left, Contains-push, Contains-push_cases}
 use Rattle.std.proofs.Math.Seq.{take-append_seam, get_or-append_seam}
 use Rattle.apx_dag.specs.declared.link.Link.{Link}
-use Rattle.apx_dag.specs.Order.{Feeds, IsWithin, IsAcyclic, IsReady, IsNext, IsOrder}
+use Rattle.apx_dag.specs.Order.{IsWithin, IsAcyclic, IsReady, IsNext, IsOrder}
 use Rattle.apx_dag.specs.Marks.{mark_at, IsReadyMark, IsNextMark, IsStuck}
 use Rattle.apx_dag.proofs.Marking.{unset, unset_falls, none_unset, none_set, all_unset, set_keeps, set_at, set_cases}
 use Rattle.apx_dag.proofs.Walk.{loops}

@@ -1,21 +1,20 @@
 -- Numbers that were read in a range are in it.
-use Rattle.std.proofs.Common.{◌≡◌, ℕ, ◌≤◌, ◌<◌, Bool, true, false, cond, leb, ◌&&◌, List, Option, Some, None, refl, sym, ap, ◌∙◌}
+use Rattle.std.proofs.Common.{◌≡◌, ℕ, ◌≤◌, Bool, true, false, cond, leb, ◌&&◌, List, Option, Some, None, refl}
 use Rattle.std.specs.Prelude.{ℤ, pos, negsuc, unwrap_or, codes}
 use Rattle.std.specs.List.{list_all}
 use Rattle.std.specs.Option.{option_map, option_and_then}
 use Rattle.std.proofs.lemmas.Bool.{leb-true, eqb-true}
 use Rattle.apx_json.specs.Integers.{integer_in}
 use Rattle.apx_json.specs.declared.text.Property.{Property}
-use Rattle.apx_json.specs.declared.text.PropertyValue.{PropertyValue}
 use Rattle.apx_tuple.specs.declared.kind.InputKind.{InputKind}
 use Rattle.apx_tuple.specs.declared.kind.Kind.{Kind}
 use Rattle.apx_tuple.specs.declared.kind.Kind.TheVariants as kinds
-use Rattle.apx_pass.specs.Graph.{Role, Input, Inner, Sink}
+use Rattle.apx_pass.specs.Graph.{Role, Inner, Sink}
 use Rattle.apx_dag.specs.declared.class.Class.{Class}
 use Rattle.apx_dag.specs.declared.class.Class.TheVariants.{Lines, Pairs, Keep, Scale, Words, Count, Sum, Peak, First, Prefix, Tumble, Top, Match, Enrich, Store}
-use Rattle.apx_dag.specs.Class.{has_output, is_end}
-use Rattle.apx_dag.specs.Role.{takes, within, natural_in, natural_named, integer_named, value_named, text_of, input_of, kind_of, built, role_of}
-use Rattle.apx_dag.specs.Rules.{is_one, is_store}
+use Rattle.apx_dag.specs.Class.{is_end}
+use Rattle.apx_dag.specs.Role.{takes, within, natural_in, natural_named, integer_named, value_named, text_of, input_of, built, role_of}
+use Rattle.apx_dag.specs.Rules.{is_one}
 use Rattle.apx_dag.specs.Valid.{IsKind, IsRole, IsEnd}
 use Rattle.apx_dag.proofs.Finding.{and_true, map_some, then_some, some_is}
 use Rattle.apx_dag.proofs.Roles.{tested}

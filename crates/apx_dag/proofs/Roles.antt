@@ -1,5 +1,5 @@
 -- The ports of a role are those of its class.
-use Rattle.std.proofs.Common.{◌≡◌, ℕ, Bool, true, false, cond, List, Option, Some, None, refl, sym, ap, subst, ◌∙◌}
+use Rattle.std.proofs.Common.{◌≡◌, ℕ, Bool, true, false, cond, List, Option, Some, None, refl}
 use Rattle.std.specs.Prelude.{codes}
 use Rattle.std.specs.List.{list_all}
 use Rattle.std.specs.Option.{option_map, option_and_then}
@@ -8,13 +8,13 @@ use Rattle.apx_tuple.specs.declared.kind.InputKind.{InputKind}
 use Rattle.apx_tuple.specs.declared.kind.Kind.{Kind}
 use Rattle.apx_tuple.specs.declared.kind.Kind.TheVariants as kinds
 use Rattle.apx_tuple.specs.Kind.{has_right}
-use Rattle.apx_pass.specs.Graph.{Role, Input, Inner, Sink}
+use Rattle.apx_pass.specs.Graph.{Role, Inner, Sink}
 use Rattle.apx_dag.specs.declared.link.Link.{Link}
 use Rattle.apx_dag.specs.declared.class.Class.{Class}
 use Rattle.apx_dag.specs.declared.class.Class.TheVariants.{Lines, Pairs, Keep, Scale, Words, Count, Sum, Peak, First, Prefix, Tumble, Top, Match, Enrich, Store}
 use Rattle.apx_dag.specs.Class.{left_port, right_port}
 use Rattle.apx_dag.specs.Graph.{link_by}
-use Rattle.apx_dag.specs.Role.{takes, natural_named, integer_named, value_named, text_of, input_of, kind_of, built, role_of}
+use Rattle.apx_dag.specs.Role.{takes, natural_named, integer_named, value_named, text_of, input_of, built, role_of}
 use Rattle.apx_dag.proofs.Finding.{map_some, then_some}
 
 -- a number where there is a port

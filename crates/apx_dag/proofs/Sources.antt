@@ -1,21 +1,18 @@
 -- The sources of the operators of a graph are those that the streams give.
-use Rattle.std.proofs.Common.{◌≡◌, ℕ, zero, suc, ◌+◌, ◌≤◌, ◌<◌, Bool, true, false, not, List, [], ◌∷◌, ◌++◌, length, get_or, map, Option, Some, None, ◌⊎◌, inl, inr, refl, sym, ap, subst, ◌∙◌, arith}
-use Rattle.std.specs.Prelude.{unwrap_or, codes}
+use Rattle.std.proofs.Common.{◌≡◌, ℕ, zero, suc, ◌+◌, ◌≤◌, ◌<◌, Bool, true, false, not, List, [], ◌∷◌, length, get_or, map, Option, Some, None, inl, inr, refl, sym, ap, subst, ◌∙◌, arith}
+use Rattle.std.specs.Prelude.{unwrap_or}
 use Rattle.std.specs.List.{find, position, list_any, list_all}
-use Rattle.std.specs.Option.{option_and_then, option_map, is_none, IfSome}
-use Rattle.std.specs.Str.{bytes_eq}
+use Rattle.std.specs.Option.{option_and_then, is_none, IfSome}
 use Rattle.std.proofs.lemmas.List.{get_or-map, length-map, get_or_past, get_or_read}
 use Rattle.std.proofs.lemmas.Bool.{ltb-false}
-use Rattle.apx_json.specs.declared.text.PortText.{PortText}
 use Rattle.apx_json.specs.Texts.{Operator, Stream, Application}
-use Rattle.apx_pass.specs.Graph.{Role, Sink, Node}
+use Rattle.apx_pass.specs.Graph.{Role, Sink}
 use Rattle.apx_dag.specs.declared.link.Link.{Link}
 use Rattle.apx_dag.specs.declared.class.Class.{Class}
-use Rattle.apx_dag.specs.Class as classes
 use Rattle.apx_dag.specs.Class.{class_of}
 use Rattle.apx_dag.specs.Graph.{node_of, nodes_from, graph_of, sources_of, sources_in, link_by, name_at}
-use Rattle.apx_dag.specs.Order.{IsSource, IsWithin, link_at, Feeds}
-use Rattle.apx_dag.specs.Ports.{is_port, is_named, has_output, left_port, right_port, is_source, joins_ports, is_sink, is_fed, is_joined, source_of, link_of, links_of}
+use Rattle.apx_dag.specs.Order.{IsSource, IsWithin}
+use Rattle.apx_dag.specs.Ports.{is_port, is_named, left_port, right_port, is_source, joins_ports, is_sink, is_fed, is_joined, source_of, link_of, links_of}
 use Rattle.apx_dag.specs.Role.{role_of, role_in}
 use Rattle.apx_dag.specs.Rules.{operator_name, stream_name, whole}
 use Rattle.apx_dag.specs.Names.{named_again}
@@ -70,7 +67,7 @@ module _ (app : Application) (holds : HoldsBefore app) where
       let source : is_source app.operators s.0.source ≡ true = (and_true (is_source app.operators s.0.source) (list_all (is_sink app.operators) s.0.sinks) joins).0 in
       let o = map_or_true _ (find (is_named s.0.source.operator) app.operators) source in
       let a = placed_at (is_named s.0.source.operator) app.operators o.0 o.1 in
-      (a.0, ap (option_and_then (λ (s : Stream). position (is_named s.source.operator) app.operators)) s.1 ∙ a.1)
+      (a.0, rw s.1 a.1)
 
   -- a port's source, or the operator's own number
   joined_port : (name : List ℕ) (port : Option (List ℕ)) (own : ℕ) → is_fed app.streams name port ≡ true → where_port port (unwrap_or (option_and_then (source_of app name) port) own) ≡ option_and_then (source_of app name) port

@@ -1,25 +1,22 @@
 -- The graph of an accepted application is valid.
-use Rattle.std.proofs.Common.{◌≡◌, ◌≢◌, ℕ, zero, suc, ◌+◌, ◌≤◌, ◌<◌, Bool, true, false, not, cond, ltb, ◌&&◌, List, [], ◌∷◌, length, get_or, take, map, Option, Some, None, Ok, Contains, ◌⊎◌, inl, inr, refl, sym, ap, subst, ◌∙◌, arith}
+use Rattle.std.proofs.Common.{◌≡◌, ◌≢◌, ℕ, zero, suc, ◌+◌, ◌<◌, Bool, true, false, not, cond, ltb, ◌&&◌, List, [], ◌∷◌, length, get_or, map, Some, None, ◌⊎◌, inl, inr, refl, sym, ap, subst, ◌∙◌, arith}
 use Rattle.std.specs.Prelude.{unwrap_or, codes}
-use Rattle.std.specs.List.{find, position, position_or_len, prefix_len, list_any, list_all, filter, slice_get}
-use Rattle.std.specs.Option.{option_and_then, option_map, option_map_or, is_none}
+use Rattle.std.specs.List.{find, position, position_or_len, list_any, list_all, filter, slice_get}
 use Rattle.std.specs.Str.{bytes_eq}
 use Rattle.std.proofs.lemmas.List.{get_or_default, get_or_past, length-map, get_or-map, length-take, get_or-take}
 use Rattle.std.proofs.Math.Numerals.{one-add}
 use Rattle.apx_json.specs.Texts.{Operator, Stream, Application}
-use Rattle.apx_tuple.specs.Kind.{has_right}
 use Rattle.apx_pass.specs.Graph.{Role, Input, Inner, Sink, Node, node_at}
 use Rattle.apx_dag.specs.declared.link.Link.{Link}
 use Rattle.apx_dag.specs.declared.class.Class.{Class}
 use Rattle.apx_dag.specs.declared.class.Class.TheVariants.{Store}
-use Rattle.apx_dag.specs.Class as classes
 use Rattle.apx_dag.specs.Class.{class_of, is_end}
 use Rattle.apx_dag.specs.Graph.{node_of, nodes_from, graph_of, sources_of, sources_in, link_by}
-use Rattle.apx_dag.specs.Order.{IsSource, IsWithin, Feeds, Reaches, at_once, through, IsOrder, link_at}
-use Rattle.apx_dag.specs.Ports.{is_named, is_port, is_source, is_sink, has_output, left_port, right_port, joins_ports, source_of, link_of, links_of}
-use Rattle.apx_dag.specs.Role.{within, role_of, role_in}
+use Rattle.apx_dag.specs.Order.{IsSource, Feeds, Reaches, at_once, through, IsOrder, link_at}
+use Rattle.apx_dag.specs.Ports.{is_named, is_port, is_source, is_sink, has_output, left_port, right_port, source_of, link_of, links_of}
+use Rattle.apx_dag.specs.Role.{role_of, role_in}
 use Rattle.apx_dag.specs.Rules.{operator_name, is_class, is_store, is_one}
-use Rattle.apx_dag.specs.Valid.{IsRole, IsInput, IsEnd, IsNode, IsFed, IsGraph}
+use Rattle.apx_dag.specs.Valid.{IsInput, IsNode, IsFed, IsGraph}
 use Rattle.apx_dag.proofs.Finding.{and_true, not_false, map_none, then_some, map_or_true, none_found, found_at, any_found, nothing, some_is}
 use Rattle.apx_dag.proofs.Inversions.{HoldsBefore, HoldsAfter}
 use Rattle.apx_dag.proofs.Ranges.{kept_range, one_is, role_tells, Tells}
@@ -128,9 +125,10 @@ module _ (app : Application) (before : HoldsBefore app) (after : HoldsAfter app)
         partitions = kept_range 1 8 1 p.operator.partitions (omega arith) (omega arith);
         gathers = kept_range 1 20000 1 p.operator.app_windows (omega arith) (omega arith);
         alone = λ h.
-          let end = t.at_end (rw p.role_is at h) in
-          ((one_is p.operator.partitions (end_alone k p lt (λ o. is_one o.partitions) (map_none operator_name _ after.whole_ends) end)).0,
-          (one_is p.operator.app_windows (end_alone k p lt (λ o. is_one o.app_windows) (map_none operator_name _ after.plain_ends) end)).1);
+            let end = t.at_end (rw p.role_is at h) in (
+              (one_is p.operator.partitions (end_alone k p lt (λ o. is_one o.partitions) (map_none operator_name _ after.whole_ends) end)).0,
+              (one_is p.operator.app_windows (end_alone k p lt (λ o. is_one o.app_windows) (map_none operator_name _ after.plain_ends) end)).1,
+            );
       })
 
   -- an operator that is a source has an output port
@@ -174,9 +172,12 @@ module _ (app : Application) (before : HoldsBefore app) (after : HoldsAfter app)
       let passes : is_class is_store p.operator ≡ true = rw same at_k.3 in
       let class_passes : is_store p.class ≡ true = rw p.class_is at passes in
       let store = store_is p.class class_passes in
-      let role : p.role ≡ Sink = (let built_store : role_of Store p.operator.properties ≡ Some p.role = rw store at p.role_of_class in sym (some_is Sink p.role (tested _ (Some Sink) p.role built_store))) in
-      (at_k.0, at_k.1, λ d. rw (p.node d, p.role_is, role) refl,
-      λ j d lt e. one_passes (is_class is_store) app.operators (map_none operator_name _ after.one) j at_k.0 o.0 lt at_k.1 (store_at j lt d e o.0) (rw at_k.2 at_k.3))
+      let role : p.role ≡ Sink = (let built_store : role_of Store p.operator.properties ≡ Some p.role = rw store at p.role_of_class in sym (some_is Sink p.role (tested _ (Some Sink) p.role built_store))) in (
+        at_k.0,
+        at_k.1,
+        λ d. rw (p.node d, p.role_is, role) refl,
+        λ j d lt e. one_passes (is_class is_store) app.operators (map_none operator_name _ after.one) j at_k.0 o.0 lt at_k.1 (store_at j lt d e o.0) (rw at_k.2 at_k.3),
+      )
 
 -- ---- the whole graph
 
@@ -203,13 +204,13 @@ module _ (nodes : List Node) (order : List ℕ) (ordered : IsOrder (sources_in n
       elim (left_source node.role node.left node.right) [
         | inl input ↦ inl input
         | inr left ↦
-          let feeds : Feeds (sources_in nodes) node.left i = inl (rw (sources_at nodes i here) left) in
-          let stands = ready.fed node.left feeds in
-          let before : stands.0 < k = omega (arith, stands.1, length-take k order) in
-          let in_order : stands.0 < length order = omega arith in
-          let is : get_or order stands.0 0 ≡ node.left = get_or_default order stands.0 0 node.left in_order ∙ sym (get_or-take k order stands.0 node.left before) ∙ stands.2 in
-          let there : node.left < length nodes = rw (← is) (let h = (ordered.next stands.0 in_order).ready.here in omega (arith, h, count)) in
-          from_left i node.left feeds (subst (IsFed nodes) is (fed_at m stands.0 (omega arith) in_order)) there
+            let feeds : Feeds (sources_in nodes) node.left i = inl (rw (sources_at nodes i here) left) in
+            let stands = ready.fed node.left feeds in
+            let before : stands.0 < k = omega (arith, stands.1, length-take k order) in
+            let in_order : stands.0 < length order = omega arith in
+            let is : get_or order stands.0 0 ≡ node.left = get_or_default order stands.0 0 node.left in_order ∙ sym (get_or-take k order stands.0 node.left before) ∙ stands.2 in
+            let there : node.left < length nodes = rw (← is) (let h = (ordered.next stands.0 in_order).ready.here in omega (arith, h, count)) in
+            from_left i node.left feeds (subst (IsFed nodes) is (fed_at m stands.0 (omega arith) in_order)) there
       ]
 
   pub each_fed : (i : ℕ) → i < length nodes → IsFed nodes i

@@ -1,8 +1,8 @@
 -- Where each operator that isn't placed has a source that isn't, one of them is reached from itself.
-use Rattle.std.proofs.Common.{◌≡◌, ◌≢◌, ℕ, zero, suc, ◌+◌, ◌-◌, ◌≤◌, ◌<◌, Bool, true, false, cond, ltb, List, length, ◌⊎◌, inl, inr, refl, sym, ap, subst, ◌∙◌, arith}
-use Rattle.std.proofs.lemmas.Bool.{cases_eq, cases_lt}
+use Rattle.std.proofs.Common.{◌≡◌, ◌≢◌, ℕ, zero, suc, ◌-◌, ◌<◌, Bool, false, cond, ltb, List, length, ◌⊎◌, inl, inr, sym, ap, subst, ◌∙◌, arith}
+use Rattle.std.proofs.lemmas.Bool.{cases_eq}
 use Rattle.apx_dag.specs.declared.link.Link.{Link}
-use Rattle.apx_dag.specs.Order.{Feeds, IsWithin, IsAcyclic, Reaches, at_once, through}
+use Rattle.apx_dag.specs.Order.{Feeds, IsWithin, Reaches, at_once, through}
 use Rattle.apx_dag.specs.Marks.{mark_at, IsStuck}
 
 -- a place below m with this value, or none

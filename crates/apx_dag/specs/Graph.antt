@@ -1,12 +1,12 @@
 -- The graph of an application, and what `Dag::of` answers.
-use Rattle.std.specs.Prelude.{◌≡◌, ℕ, ◌+◌, ◌<◌, ◌≤◌, ℤ, pos, List, [], ◌∷◌, length, map, Option, Some, None, unwrap_or, Result, Ok, Err, slice_index_or, if◌then◌else◌}
+use Rattle.std.specs.Prelude.{◌≡◌, ℕ, ◌+◌, pos, List, [], ◌∷◌, map, Some, None, unwrap_or, Result, Ok, Err, slice_index_or, if◌then◌else◌}
 use Rattle.apx_json.specs.Texts.{Operator, Application}
 use Rattle.apx_tuple.specs.Kind.{has_right}
 use Rattle.apx_pass.specs.Graph.{Role, Input, Inner, Sink, Node}
 use Rattle.apx_dag.specs.declared.link.Link.{Link}
 use Rattle.apx_dag.specs.declared.refusal.AppRefusal.{AppRefusal}
 use Rattle.apx_dag.specs.declared.refusal.AppRefusal.TheVariants.{Refused, Memory}
-use Rattle.apx_dag.specs.Order.{IsAcyclic, IsOrder}
+use Rattle.apx_dag.specs.Order.{IsAcyclic}
 use Rattle.apx_dag.specs.Marks.{IsFirstLoop}
 use Rattle.apx_dag.specs.Ports.{link_of, links_of}
 use Rattle.apx_dag.specs.Role.{within, role_in}

@@ -1,5 +1,5 @@
 -- Who feeds whom, and in which order operators can step.
-use Rattle.std.specs.Prelude.{◌≡◌, ℕ, ◌<◌, ◌⊎◌, List, length, take, slice_index, slice_index_or, Contains, Option, Some, None}
+use Rattle.std.specs.Prelude.{◌≡◌, ℕ, ◌<◌, ◌⊎◌, List, length, take, slice_index, slice_index_or, Contains, Some, None}
 use Rattle.apx_dag.specs.declared.link.Link.{Link}
 
 -- the sources of an operator, by its number

@@ -1,5 +1,5 @@
 -- The ports of operators, and the streams that join them.
-use Rattle.std.specs.Prelude.{ℕ, ◌+◌, ◌&&◌, ◌||◌, not, codes, Bool, true, false, List, [], ◌∷◌, ◌++◌, find, map, Option, Some, None, option_and_then, option_map, position, if◌then◌else◌}
+use Rattle.std.specs.Prelude.{ℕ, ◌&&◌, ◌||◌, not, codes, Bool, true, false, List, [], ◌∷◌, ◌++◌, find, map, Option, Some, None, option_and_then, position, if◌then◌else◌}
 use Rattle.std.specs.List.{list_any, list_all}
 use Rattle.std.specs.Option.{option_map_or}
 use Rattle.std.specs.Str.{bytes_eq}

@@ -1,5 +1,5 @@
 -- What an operator does, from its class and its properties.
-use Rattle.std.specs.Prelude.{ℕ, ◌+◌, ◌-◌, ◌^◌, ◌&&◌, ◌||◌, ◌==◌, nat_le, nat_lt, not, ℤ, pos, negsuc, codes, Bool, true, false, List, [], ◌∷◌, length, find, slice_index, Option, Some, None, is_some, option_and_then, option_map, unwrap_or, reverse, if◌then◌else◌}
+use Rattle.std.specs.Prelude.{ℕ, ◌-◌, ◌^◌, ◌&&◌, ◌||◌, ◌==◌, nat_le, not, ℤ, pos, negsuc, codes, Bool, false, List, length, find, slice_index, Option, Some, None, is_some, option_and_then, option_map, unwrap_or, reverse, if◌then◌else◌}
 use Rattle.std.specs.List.{list_all}
 use Rattle.std.specs.Str.{bytes_eq}
 use Rattle.apx_json.specs.declared.text.Property.{Property}

@@ -1,6 +1,6 @@
 -- The rules of applications. Each gives the place that breaks it first, if there is one: the name of the
 -- first operator in the order of the file, and else of the first stream.
-use Rattle.std.specs.Prelude.{ℕ, ◌&&◌, ◌||◌, ◌==◌, nat_le, nat_lt, not, ℤ, pos, negsuc, Bool, true, false, List, [], ◌∷◌, length, filter, find, slice_get, Option, Some, None, is_none, option_map, if◌then◌else◌}
+use Rattle.std.specs.Prelude.{ℕ, ◌&&◌, ◌||◌, ◌==◌, nat_lt, not, ℤ, pos, negsuc, Bool, true, false, List, [], length, filter, find, slice_get, Option, Some, None, is_none, option_map, if◌then◌else◌}
 use Rattle.std.specs.List.{list_any}
 use Rattle.std.specs.Option.{option_map_or, option_or}
 use Rattle.apx_json.specs.Texts.{Operator, Stream, Application}

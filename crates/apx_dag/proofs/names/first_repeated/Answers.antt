@@ -1,6 +1,4 @@
-use Rattle.std.proofs.Common.{◌≡◌, List, [], ◌∷◌, ◌++◌, drop, sym, ◌∙◌, true, false, cond, ap, refl, Some}
-use Rattle.std.specs.List.{list_any}
-use Rattle.std.specs.Str.{bytes_eq}
+use Rattle.std.proofs.Common.{[], sym, ◌∙◌, ap, refl, Some}
 use Rattle.apx_dag.specs.Names.{named_again}
 use Rattle.apx_dag.proofs.Repeats.{texts, was_there, was_new, found, goes_on, ended}
 use Rattle.apx_dag.proofs.names.first_repeated.Goals as goal

@@ -1,7 +1,7 @@
-use Rattle.std.proofs.Common.{◌≡◌, ◌<◌, ℕ, suc, true, List, Bool, length, set, ◌∙◌, arith}
+use Rattle.std.proofs.Common.{◌≡◌, ◌<◌, suc, true, length, set, arith}
 use Rattle.apx_dag.specs.Marks.{IsNextMark, IsStuck}
 use Rattle.apx_dag.proofs.Marking.{unset, unset_falls}
-use Rattle.apx_dag.proofs.Placing.{Placed, none_placed, place, all_placed}
+use Rattle.apx_dag.proofs.Placing.{none_placed, place, all_placed}
 use Rattle.apx_dag.proofs.order.order.Goals as goal
 use Rattle.apx_dag.proofs.order.order.Goals.{In-Some}
 

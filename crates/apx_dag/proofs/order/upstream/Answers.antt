@@ -1,7 +1,5 @@
-use Rattle.std.proofs.Common.{◌≡◌, ◌<◌, ℕ, suc, true, false, List, Bool, length, set, replicate, refl, sym, ap, ◌∙◌, arith, inl, inr, length-set}
-use Rattle.std.proofs.lemmas.List.{length-replicate}
-use Rattle.apx_dag.specs.Order.{Reaches}
-use Rattle.apx_dag.specs.Marks.{mark_at, IsUpstreamNext, IsUpstreamDone}
+use Rattle.std.proofs.Common.{◌≡◌, ◌<◌, suc, true, length, set, refl, ◌∙◌, arith, length-set}
+use Rattle.apx_dag.specs.Marks.{IsUpstreamNext, IsUpstreamDone}
 use Rattle.apx_dag.proofs.Marking.{unset, unset_falls, none_marked, keeps_sound, next_here, all_marked}
 use Rattle.apx_dag.proofs.order.upstream.Goals as goal
 use Rattle.apx_dag.proofs.order.upstream.Goals.{In-Some}

@@ -1,4 +1,4 @@
-use Rattle.std.proofs.Common.{◌≡◌, sym, ◌∙◌}
+use Rattle.std.proofs.Common.{sym, ◌∙◌}
 use Rattle.apx_dag.proofs.Building.{place_of}
 use Rattle.apx_dag.proofs.dag.Dag.find.Goals as goal
 

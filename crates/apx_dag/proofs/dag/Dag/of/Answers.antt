@@ -1,11 +1,8 @@
-use Rattle.std.proofs.Common.{◌≡◌, ◌≤◌, ◌<◌, ℕ, length, get_or, map, List, sym, ap, subst, ◌∙◌, arith}
+use Rattle.std.proofs.Common.{◌≡◌, length, get_or, List, ap, ◌∙◌, arith}
 use Rattle.std.proofs.lemmas.List.{length-map}
 use Rattle.apx_json.specs.Texts.{Operator, Application}
-use Rattle.apx_dag.specs.declared.link.Link.{Link}
-use Rattle.apx_dag.specs.Graph.{IsRefused, graph_of, sources_in, sources_of}
 use Rattle.apx_dag.specs.Marks.{IsFirstLoop}
-use Rattle.apx_dag.specs.Order.{IsOrder, IsWithin}
-use Rattle.apx_dag.specs.Ports.{link_of, links_of}
+use Rattle.apx_dag.specs.Ports.{link_of}
 use Rattle.apx_dag.proofs.Answering.{is_cycle, is_dag}
 use Rattle.apx_dag.proofs.Inversions.{holds_before}
 use Rattle.apx_dag.proofs.Sources.{links_within, few_operators, names_apart}

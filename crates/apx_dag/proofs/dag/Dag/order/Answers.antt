@@ -1,4 +1,3 @@
-use Rattle.std.proofs.Common.{◌≡◌}
 use Rattle.apx_dag.proofs.Going.{can-go}
 use Rattle.apx_dag.proofs.dag.Dag.order.Goals as goal
 

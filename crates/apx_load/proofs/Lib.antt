@@ -1,0 +1,3 @@
+mod Windows
+mod Loading
+pub mod Unique

@@ -1,0 +1,19 @@
+-- The words of the command line, after the program's name.
+use Rattle.std.specs.Prelude.{ℕ, ◌==◌, ◌&&◌, nat_le, not, Bool, List, [], ◌∷◌, length, slice_index, codes, Option, Some, None, option_and_then, if◌then◌else◌}
+use Rattle.std.specs.Str.{bytes_eq}
+use Rattle.apx_load.specs.declared.words.Action.{Action}
+use Rattle.apx_load.specs.declared.words.Action.TheVariants.{Check, Sim}
+
+-- a file name has 1 to 4,096 bytes and doesn't begin with a minus, byte 45
+abbrev pub is_file_name : List ℕ → Bool
+is_file_name name = nat_le 1 (length name) && nat_le (length name) 4096 && not (slice_index name 0 == 45)
+
+abbrev pub action_of : List ℕ → Option Action
+action_of word = if bytes_eq word (codes "check") then Some Check else if bytes_eq word (codes "sim") then Some Sim else None
+
+-- a command is its word and the name of an application's file
+unfoldable pub command_of : List (List ℕ) → Option (Action × List ℕ)
+command_of [] = None
+command_of (word ∷ []) = None
+command_of (word ∷ app ∷ []) = option_and_then (λ action. if is_file_name app then Some (action, app) else None) (action_of word)
+command_of (word ∷ app ∷ more ∷ words) = None

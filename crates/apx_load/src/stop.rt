@@ -1,0 +1,76 @@
+//! Why a run stops before its end.
+use crate::refusal::Refusal;
+use apx_dag::AppRefusal;
+use apx_json::{JsonRefusal, Name};
+use std::alloc::{AllocError, AllocFailed};
+
+/// Why a run stops before its end.
+#[derive(Debug, Drop)]
+pub enum Stop {
+    /// The words or a file are refused.
+    Refused(Refusal),
+    /// The folder failed at this file.
+    CannotRead { name: Name },
+    /// The sink's store failed.
+    StoreFailed,
+    /// The output failed.
+    OutputFailed,
+    /// Memory ran out.
+    Memory,
+    /// A bag or a state is too large.
+    Large,
+}
+
+impl From<AllocError> for Stop {
+    ghost use Rattle.std.specs.Prelude.{◌≡◌};
+    ghost use Rattle.apx_load.specs.declared.stop.Stop.TheVariants.{Memory};
+
+    ghost from_gives = { λ _ stop. stop ≡ Memory };
+
+    fn from(_error: AllocError) -> Stop {
+        Stop::Memory
+    }
+}
+
+impl<T: Drop> From<AllocFailed<T>> for Stop {
+    ghost use Rattle.std.specs.Prelude.{◌≡◌};
+    ghost use Rattle.apx_load.specs.declared.stop.Stop.TheVariants.{Memory};
+
+    ghost from_gives = { λ _ stop. stop ≡ Memory };
+
+    fn from(_error: AllocFailed<T>) -> Stop {
+        Stop::Memory
+    }
+}
+
+impl From<JsonRefusal> for Stop {
+    ghost use Rattle.std.specs.Prelude.{◌≡◌};
+    ghost use Rattle.apx_load.specs.Stops.{stop_of_json};
+
+    ghost from_gives = { λ refusal stop. stop ≡ stop_of_json refusal };
+
+    fn from(refusal: JsonRefusal) -> Stop {
+        match refusal {
+            JsonRefusal::Syntax => Stop::Refused(Refusal::NoJson),
+            JsonRefusal::Shape { place } => Stop::Refused(Refusal::WrongShape { place }),
+            JsonRefusal::Memory => Stop::Memory,
+        }
+    }
+}
+
+impl From<AppRefusal> for Stop {
+    ghost use Rattle.std.specs.Prelude.{◌≡◌};
+    ghost use Rattle.apx_load.specs.Stops.{stop_of_graph};
+
+    ghost from_gives = { λ refusal stop. stop ≡ stop_of_graph refusal };
+
+    fn from(refusal: AppRefusal) -> Stop {
+        match refusal {
+            AppRefusal::Refused { code, place } => Stop::Refused(Refusal::BrokenRule {
+                code,
+                place,
+            }),
+            AppRefusal::Memory => Stop::Memory,
+        }
+    }
+}

@@ -1,0 +1,4 @@
+pub mod Acting
+pub mod Printing
+pub mod Running
+pub mod Storing

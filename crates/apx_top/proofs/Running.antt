@@ -1,0 +1,69 @@
+-- What reading, storing and printing say of a run.
+use Rattle.std.proofs.Common.{◌≡◌, ℕ, suc, ◌+◌, ◌<◌, ◌≤◌, inl, inr, List, [], ◌∷◌, ◌++◌, length, take, refl, sym, ap, ◌∙◌, subst, arith, Bool, IsTrue, IfErr, OnOk}
+use Rattle.std.specs.Prelude.{Result, Ok, Err, ⊤, Option}
+use Rattle.apx_tuple.specs.declared.tuple.Tuple.{Tuple}
+use Rattle.apx_device.specs.Cause.{Rose}
+use Rattle.apx_device.specs.Out.{GotFront}
+use Rattle.apx_pass.specs.Graph.{Node}
+use Rattle.apx_pass.specs.Groups.{Input}
+use Rattle.apx_pass.specs.Pass.{Job, windows, mean}
+use Rattle.apx_pass.specs.Texts.{windows_text}
+use Rattle.apx_load.specs.declared.stop.Stop.{Stop}
+use Rattle.apx_load.specs.declared.stop.Stop.TheVariants.{Refused, CannotRead, StoreFailed, OutputFailed, Memory, Large}
+use Rattle.apx_load.specs.Refusals.{Told, IsApplication, AreInputs, IsInputsRefusal}
+use Rattle.apx_load.specs.Stops.{IsLoadStop}
+use Rattle.apx_top.specs.Print.{IsPrintStop}
+use Rattle.apx_top.specs.Run.{IsAccepted, IsSimStop, HasRun, HasLeft, storing, printing, rows_text}
+use Rattle.apx_top.specs.Sent.{HasWritten}
+use Rattle.apx_top.specs.Store.{HoldsPrefix}
+use Rattle.apx_top.proofs.Storing.{length-mean_up_to}
+
+-- a stop at an input is one of the run
+pub of-inputs : (tells : Bool) (old mid : Told) (name : List ℕ) (nodes : List Node) (before between now : ℕ) (store output : Type 0) (stop : Stop) → mid ≡ old → before ≤ between → (IsTrue tells → IsApplication old name nodes) → IsLoadStop tells (IsInputsRefusal mid nodes) (Rose between now) stop → IsSimStop tells old name (Rose before now) store output stop
+of-inputs tells old mid name nodes before between now store output (Refused refusal) told later app is = λ t. inr (record { nodes = nodes; inputs = [] }, app t, subst (λ (f : Told). IsInputsRefusal f nodes refusal) told (is t))
+of-inputs tells old mid name nodes before between now store output (CannotRead file) told later app is = omega (arith, is)
+of-inputs tells old mid name nodes before between now store output StoreFailed told later app is = absurd is
+of-inputs tells old mid name nodes before between now store output OutputFailed told later app is = absurd is
+of-inputs tells old mid name nodes before between now store output Memory told later app is = tt
+of-inputs tells old mid name nodes before between now store output Large told later app is = absurd is
+
+-- what is read is accepted, in the words of the folder before the inputs were read
+pub accepted-of : (old mid : Told) (name : List ℕ) (nodes : List Node) (inputs : List (Option Input)) → mid ≡ old → IsApplication old name nodes → AreInputs mid nodes inputs → IsAccepted old name (record { nodes = nodes; inputs = inputs })
+accepted-of old mid name nodes inputs told app are = record { application = app; inputs = subst (λ (f : Told). AreInputs f nodes inputs) told are }
+
+weaker : (A B : Type 0) (stop : Stop) → IsPrintStop A B stop → IsPrintStop ⊤ ⊤ stop
+weaker A B StoreFailed is = tt
+weaker A B OutputFailed is = tt
+weaker A B Memory is = tt
+weaker A B Large is = absurd is
+weaker A B (Refused refusal) is = absurd is
+weaker A B (CannotRead name) is = absurd is
+
+take-length : {X : Type 0} (xs : List X) → take (length xs) xs ≡ xs
+take-length [] = refl
+take-length (x ∷ xs) = ap (λ l. x ∷ l) (take-length xs)
+
+module _ (job : Job) (told : Told) (name : List ℕ) (tells : Bool) (before mid after : List (List Tuple)) (out_before out_after : List ℕ) (n : ℕ) (count : n ≡ windows job) (accepted : IsAccepted told name job) (all : HoldsPrefix job before → mid ≡ mean job) (same : after ≡ mid) where
+  text-of : HoldsPrefix job before → windows_text 1000000000 1 (take n mid) ≡ rows_text job
+  text-of h =
+      let m = all h in
+      let e : n ≡ length mid = count ∙ sym (length-mean_up_to job (windows job)) ∙ sym (ap length m) in
+      ap (windows_text 1000000000 1) (ap (λ k. take k mid) e ∙ take-length mid ∙ m)
+
+  long : HoldsPrefix job before → n ≤ length mid
+  long h = let e : n ≡ length mid = count ∙ sym (length-mean_up_to job (windows job)) ∙ sym (ap length (all h)) in omega arith
+
+  -- after all was printed
+  pub run-done : (r : Result ⊤ Stop) → (n ≤ length mid → HasWritten tells (windows_text 1000000000 1 (take n mid)) r out_before out_after) → OnOk r (HasRun told name tells before after out_before out_after)
+  run-done (Ok v) written = record {
+    job = job;
+    accepted = accepted;
+    stored = λ h. same ∙ all h;
+    printed = λ t h. written (long h) t ∙ ap (λ x. out_before ++ x) (text-of h);
+  }
+  run-done (Err stop) written = tt
+
+  -- after printing stopped
+  pub run-left : (A B : Type 0) (r : Result ⊤ Stop) → (n ≤ length mid → HasWritten tells (windows_text 1000000000 1 (take n mid)) r out_before out_after) → IfErr r (IsPrintStop A B) → IfErr r (HasLeft told name tells before after out_before out_after)
+  run-left A B (Ok v) written stop = tt
+  run-left A B (Err e) written stop = printing job accepted (λ h. same ∙ all h) (λ t h. subst (λ x. GotFront x out_before out_after) (text-of h) (written (long h) t)) (weaker A B e stop)

@@ -1,0 +1,52 @@
+-- The status of a run that stopped, and the line that says why.
+use Rattle.std.specs.Prelude.{ℕ, ◌==◌, if◌then◌else◌, length, List, [], ◌++◌, codes, decimal}
+use Rattle.apx_load.specs.declared.refusal.LineCause.{LineCause}
+use Rattle.apx_load.specs.declared.refusal.LineCause.TheVariants.{TooMany, TooLong, BadPair}
+use Rattle.apx_load.specs.declared.refusal.Refusal.{Refusal}
+use Rattle.apx_load.specs.declared.refusal.Refusal.TheVariants.{NotACommand, NoFile, FileTooLong, NoJson, WrongShape, BrokenRule, RefusedLine}
+use Rattle.apx_load.specs.declared.stop.Stop.{Stop}
+use Rattle.apx_load.specs.declared.stop.Stop.TheVariants.{Refused, CannotRead, StoreFailed, OutputFailed, Memory, Large}
+
+abbrev pub refusal_status : Refusal → ℕ
+refusal_status NotACommand = 1
+refusal_status (NoFile name) = 3
+refusal_status (FileTooLong name) = 4
+refusal_status NoJson = 5
+refusal_status (WrongShape place) = 5
+refusal_status (BrokenRule code place) = 5
+refusal_status (RefusedLine file line cause) = 6
+
+abbrev pub status_of : Stop → ℕ
+status_of (Refused refusal) = refusal_status refusal
+status_of (CannotRead name) = 2
+status_of StoreFailed = 9
+status_of OutputFailed = 12
+status_of Memory = 13
+status_of Large = 19
+
+abbrev pub cause_text : LineCause → List ℕ
+cause_text TooLong = codes " refused: too long\n"
+cause_text BadPair = codes " refused: no pair\n"
+cause_text TooMany = codes " refused: too many windows\n"
+
+-- a blank before a place, where there is one
+abbrev pub blank_before : List ℕ → List ℕ
+blank_before place = if length place == 0 then [] else codes " "
+
+abbrev pub refusal_line : Refusal → List ℕ
+refusal_line NotACommand = codes "apex: not a command\n"
+refusal_line (NoFile name) = codes "apex: no file " ++ (name ++ codes "\n")
+refusal_line (FileTooLong name) = codes "apex: file too long " ++ (name ++ codes "\n")
+refusal_line NoJson = codes "apex: application refused: Syntax\n"
+refusal_line (WrongShape place) = codes "apex: application refused: Shape " ++ (place ++ codes "\n")
+refusal_line (BrokenRule code place) = codes "apex: application refused: A" ++ (decimal code ++ (blank_before place ++ (place ++ codes "\n")))
+refusal_line (RefusedLine file line cause) = codes "apex: line " ++ (decimal line ++ (codes " of " ++ (file ++ cause_text cause)))
+
+-- nothing is said of an output that failed
+abbrev pub line_of : Stop → List ℕ
+line_of (Refused refusal) = refusal_line refusal
+line_of (CannotRead name) = codes "apex: cannot read " ++ (name ++ codes "\n")
+line_of StoreFailed = codes "apex: sink store failed\n"
+line_of OutputFailed = []
+line_of Memory = codes "apex: out of memory\n"
+line_of Large = codes "apex: too large\n"

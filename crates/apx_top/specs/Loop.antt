@@ -1,0 +1,9 @@
+-- What holds of the store after the first windows of a pass.
+use Rattle.std.specs.Prelude.{◌≡◌, ℕ, ◌≤◌, List}
+use Rattle.apx_tuple.specs.declared.tuple.Tuple.{Tuple}
+use Rattle.apx_pass.specs.Pass.{Job, windows, mean_up_to}
+
+-- the store holds the rows of exactly so many first windows
+pub record HoldsFirst (job : Job) (last : ℕ) (stored : List (List Tuple)) : Type 0 where
+  pub within : last ≤ windows job
+  pub is : stored ≡ mean_up_to job last

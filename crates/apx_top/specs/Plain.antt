@@ -1,0 +1,70 @@
+-- How the program ends, by its words and the files of its folder.
+use Rattle.std.specs.Prelude.{◌≡◌, ℕ, ◌⊎◌, Bool, IsTrue, List, [], ◌++◌, Option, Some, None, Result, Ok, Err, codes, ⊤}
+use Rattle.apx_tuple.specs.declared.tuple.Tuple.{Tuple}
+use Rattle.apx_device.specs.Out.{GotFront}
+use Rattle.apx_pass.specs.Graph.{Node}
+use Rattle.apx_pass.specs.Large.{IsLargeJob}
+use Rattle.apx_pass.specs.Pass.{Job}
+use Rattle.apx_load.specs.declared.stop.Stop.{Stop}
+use Rattle.apx_load.specs.declared.stop.Stop.TheVariants.{Refused, CannotRead, StoreFailed, OutputFailed, Memory, Large}
+use Rattle.apx_load.specs.declared.refusal.Refusal.TheVariants.{NotACommand}
+use Rattle.apx_load.specs.declared.words.Action.TheVariants.{Check, Sim}
+use Rattle.apx_load.specs.Refusals.{Told, IsApplication, IsApplicationRefusal, IsRefusal, IsJob}
+use Rattle.apx_load.specs.Words.{command_of}
+use Rattle.apx_top.specs.Lines.{status_of, line_of}
+use Rattle.apx_top.specs.Run.{HasRun, HasLeft}
+
+-- ---- judging an application
+
+-- the application is accepted, and the output got `ok`
+pub record HasChecked (told : Told) (name : List ℕ) (tells : Bool) (out_before out_after : List ℕ) : Type 0 where
+  pub nodes : List Node
+  pub accepted : IsApplication told name nodes
+  pub printed : IsTrue tells → out_after ≡ out_before ++ codes "ok\n"
+
+-- what stops it: a refusal of the file, a fault of the folder or of the output, and want of memory
+abbrev pub IsCheckStop : Bool → Told → List ℕ → Type 0 → Type 0 → Stop → Type 0
+IsCheckStop tells told name folder output (Refused refusal) = IsTrue tells → IsApplicationRefusal told name refusal
+IsCheckStop tells told name folder output (CannotRead file) = folder
+IsCheckStop tells told name folder output StoreFailed = ⊥
+IsCheckStop tells told name folder output OutputFailed = output
+IsCheckStop tells told name folder output Memory = ⊤
+IsCheckStop tells told name folder output Large = ⊥
+
+-- ---- both commands
+
+-- The cause of a stop: the first refusal of the words and files, where the folder tells its files; a fault
+-- of the folder, the store or the output, which then has counted it; a size of the job; or want of memory.
+abbrev pub IsStop : List (List ℕ) → Bool → Told → Type 0 → Type 0 → Type 0 → Stop → Type 0
+IsStop words tells told folder store output (Refused refusal) = IsTrue tells → IsRefusal words told refusal
+IsStop words tells told folder store output (CannotRead name) = folder
+IsStop words tells told folder store output StoreFailed = store
+IsStop words tells told folder store output OutputFailed = output
+IsStop words tells told folder store output Memory = ⊤
+IsStop words tells told folder store output Large = IsTrue tells → (job : Job) × IsJob words told job × IsLargeJob job
+
+-- all that the words ask for is done
+pub data HasDone (words : List (List ℕ)) (told : Told) (tells : Bool) (store_before store_after : List (List Tuple)) (out_before out_after : List ℕ) : Type 0 where
+  checked : (name : List ℕ) → command_of words ≡ Some (Check, name) → HasChecked told name tells out_before out_after → store_after ≡ store_before → HasDone words told tells store_before store_after out_before out_after
+  ran : (name : List ℕ) → command_of words ≡ Some (Sim, name) → HasRun told name tells store_before store_after out_before out_after → HasDone words told tells store_before store_after out_before out_after
+
+-- what a stop leaves: the words are no command and nothing is touched; or a front of `ok`; or what the run leaves
+pub data HasStopped (words : List (List ℕ)) (told : Told) (tells : Bool) (store_before store_after : List (List Tuple)) (out_before out_after : List ℕ) (stop : Stop) : Type 0 where
+  no_command : command_of words ≡ None → stop ≡ Refused NotACommand → store_after ≡ store_before → out_after ≡ out_before → HasStopped words told tells store_before store_after out_before out_after stop
+  checking : (name : List ℕ) → command_of words ≡ Some (Check, name) → (IsTrue tells → GotFront (codes "ok\n") out_before out_after) → store_after ≡ store_before → HasStopped words told tells store_before store_after out_before out_after stop
+  running : (name : List ℕ) → command_of words ≡ Some (Sim, name) → HasLeft told name tells store_before store_after out_before out_after stop → HasStopped words told tells store_before store_after out_before out_after stop
+
+-- ---- the status and the line that says why
+
+abbrev pub status_after : Result ⊤ Stop → ℕ
+status_after (Ok _) = 0
+status_after (Err stop) = status_of stop
+
+abbrev pub line_after : Result ⊤ Stop → List ℕ
+line_after (Ok _) = []
+line_after (Err stop) = line_of stop
+
+-- the error output has got the line, or a front of it where its count rose
+pub record HasSaid (line : List ℕ) (rose : Type 0) (before now : List ℕ) : Type 0 where
+  pub front : GotFront line before now
+  pub whole : rose ⊎ (now ≡ before ++ line)

@@ -1,0 +1,11 @@
+//! The top call: from the words of the command line and the devices to a status.
+#![tactic(auto)]
+
+pub use plain::{Devices, Ended, apex_plain};
+
+mod plain;
+mod print;
+mod say;
+mod sim;
+mod store;
+mod write;

@@ -1,0 +1,90 @@
+//! Printing the windows that the keeper holds.
+ghost use Rattle.std.specs.Prelude.{◌≡◌, ◌≤◌, ◌-◌, List, Some, length, IsTrue, IfErr, OnOk, slice_get, take};
+ghost use Rattle.apx_device.specs.Cause.{Rose};
+ghost use Rattle.apx_tuple.specs.declared.tuple.Tuple.{Tuple};
+ghost use Rattle.apx_pass.specs.Texts.{window_text as text_of, windows_text};
+ghost use Rattle.apx_top.specs.Print.{IsPrintStop};
+ghost use Rattle.apx_top.specs.Sent.{HasWritten};
+
+use crate::write::write_all;
+use apx_device::{KeepRefusal, Keeper, Out};
+use apx_load::Stop;
+use apx_report::window_text;
+use apx_tuple::Tuple;
+use std::alloc::Global;
+
+/// The base second of the windows' identifiers.
+const BASE: u32 = 1_000_000_000;
+
+/// Writes a window's text.
+fn write_window<O: Out>(
+    alloc: Global,
+    window: u32,
+    rows: &[Tuple],
+    out: &mut O,
+) -> Result<(), Stop>
+    requires low { 1 ≤ window }
+    requires high { window ≤ 20000 }
+    ensures written { HasWritten O.tells (text_of 1000000000 window rows.now) result (O.written out.old) (O.written out.new) }
+    ensures later { O.faults out.old ≤ O.faults out.new }
+    ensures stop { IfErr result (IsPrintStop ⊥ (Rose (O.faults out.old) (O.faults out.new))) }
+{
+    let mut text = Vec::new(alloc);
+    if window_text(BASE, window, rows, &mut text).is_err() {
+        return Err(Stop::Memory);
+    }
+    match write_all(out, &text) {
+        Ok(()) => Ok(()),
+        Err(_) => Err(Stop::OutputFailed),
+    }
+}
+
+/// Prints a window that the keeper holds.
+fn print_window<K: Keeper, O: Out>(
+    alloc: Global,
+    keeper: &mut K,
+    window: u32,
+    out: &mut O,
+) -> Result<(), Stop>
+    requires sound { IsTrue (K.sound keeper.old) }
+    requires low { 1 ≤ window }
+    requires high { window ≤ 20000 }
+    requires there { window ≤ K.last keeper.old }
+    ensures stored { K.stored keeper.new ≡ K.stored keeper.old }
+    ensures last { K.last keeper.new ≡ K.last keeper.old }
+    ensures sound { OnOk result (IsTrue (K.sound keeper.new)) }
+    ensures written { IsTrue K.tells → (rows : List Tuple) → slice_get (K.stored keeper.old) (window - 1) ≡ Some rows →
+        HasWritten O.tells (text_of 1000000000 window rows) result (O.written out.old) (O.written out.new) }
+    ensures store_later { K.faults keeper.old ≤ K.faults keeper.new }
+    ensures later { O.faults out.old ≤ O.faults out.new }
+    ensures stop { IfErr result (IsPrintStop (Rose (K.faults keeper.old) (K.faults keeper.new)) (Rose (O.faults out.old) (O.faults out.new))) }
+{
+    match keeper.rows(alloc, window) {
+        Ok(rows) => write_window(alloc, window, &rows, out),
+        Err(KeepRefusal::Failed) => Err(Stop::StoreFailed),
+        Err(KeepRefusal::Memory) => Err(Stop::Memory),
+    }
+}
+
+/// Prints the keeper's windows from the first to the number `windows`, or a front of that text.
+pub(crate) fn print_all<K: Keeper, O: Out>(
+    alloc: Global,
+    keeper: &mut K,
+    windows: u32,
+    out: &mut O,
+) -> Result<(), Stop>
+    requires sound { IsTrue (K.sound keeper.old) }
+    requires few { windows ≤ 20000 }
+    requires there { windows ≤ K.last keeper.old }
+    ensures stored { K.stored keeper.new ≡ K.stored keeper.old }
+    ensures written { IsTrue K.tells → windows ≤ length (K.stored keeper.old) →
+        HasWritten O.tells (windows_text 1000000000 1 (take windows (K.stored keeper.old))) result (O.written out.old) (O.written out.new) }
+    ensures store_later { K.faults keeper.old ≤ K.faults keeper.new }
+    ensures later { O.faults out.old ≤ O.faults out.new }
+    ensures stop { IfErr result (IsPrintStop (Rose (K.faults keeper.old) (K.faults keeper.new)) (Rose (O.faults out.old) (O.faults out.new))) }
+{
+    for done in 0..windows {
+        print_window(alloc, keeper, done + 1, out)?;
+    }
+    Ok(())
+}

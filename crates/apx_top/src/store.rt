@@ -1,0 +1,80 @@
+//! Storing the windows of a run.
+ghost use Rattle.std.specs.Prelude.{◌≡◌, ◌<◌, ◌≤◌, ◌+◌, ◌++◌, ◌∷◌, [], suc, IsTrue, IfOk, IfErr, OnOk};
+ghost use Rattle.apx_device.specs.Cause.{Rose};
+ghost use Rattle.apx_pass.specs.Pass.{windows_of, rows_at, sink_of, mean};
+ghost use Rattle.apx_mean.specs.Passing.{job_of};
+ghost use Rattle.apx_top.specs.Store.{HoldsPrefix, IsStoreStop, LeftByCommit, IsCommitStop};
+
+use apx_dag::Dag;
+use apx_device::{KeepRefusal, Keeper};
+use apx_input::Windows;
+use apx_load::Stop;
+use apx_mean::OnePass;
+use apx_tuple::{Bag, Short};
+use std::alloc::Global;
+
+/// Stores the rows of one window.
+fn commit<K: Keeper>(keeper: &mut K, window: u32, rows: &Bag) -> Result<(), Stop>
+    requires sound { IsTrue (K.sound keeper.old) }
+    requires next { window ≡ K.last keeper.old + 1 }
+    ensures stored { IsTrue K.tells → LeftByCommit result (K.stored keeper.old) (K.stored keeper.old ++ rows.now ∷ []) (K.stored keeper.new) }
+    ensures last { OnOk result (K.last keeper.new ≡ K.last keeper.old + 1) }
+    ensures sound { OnOk result (IsTrue (K.sound keeper.new)) }
+    ensures later { K.faults keeper.old ≤ K.faults keeper.new }
+    ensures stop { IfErr result (IsCommitStop (Rose (K.faults keeper.old) (K.faults keeper.new))) }
+{
+    match keeper.commit(window, rows.tuples()) {
+        Ok(()) => Ok(()),
+        Err(KeepRefusal::Failed) => Err(Stop::StoreFailed),
+        Err(KeepRefusal::Memory) => Err(Stop::Memory),
+    }
+}
+
+/// The next window of a pass.
+fn next_window<'a>(alloc: Global, pass: OnePass<'a>) -> Result<(OnePass<'a>, Bag), Stop>
+    requires { pass.passed < 20000 }
+    ensures ok { IfOk result (λ r. (r.0 ≡ record { job = pass.entry.job; passed = pass.entry.passed + 1 }) × (r.1 ≡ rows_at pass.entry.job (suc pass.entry.passed) (sink_of pass.entry.job.nodes))) }
+    ensures stop { IfErr result (IsStoreStop pass.entry.job ⊥) }
+{
+    match pass.next(alloc) {
+        Ok(passed) => Ok(passed),
+        Err(Short::Memory) => Err(Stop::Memory),
+        Err(Short::Large) => Err(Stop::Large),
+    }
+}
+
+/// Goes over the application once and stores each window that the keeper hasn't yet.
+///
+/// Where the keeper began with the rows of the first windows, it has those of some first windows
+/// whatever comes, and after an Ok those of all.
+pub(crate) fn store_all<K: Keeper>(
+    alloc: Global,
+    dag: &Dag,
+    inputs: &[Option<Windows>],
+    windows: u32,
+    keeper: &mut K,
+) -> Result<(), Stop>
+    requires sound { IsTrue (K.sound keeper.old) }
+    requires windows { windows ≡ windows_of inputs.now }
+    requires few { windows ≤ 20000 }
+    ensures prefix { IsTrue K.tells → HoldsPrefix (job_of dag.now inputs.now) (K.stored keeper.old) → HoldsPrefix (job_of dag.now inputs.now) (K.stored keeper.new) }
+    ensures all { IsTrue K.tells → HoldsPrefix (job_of dag.now inputs.now) (K.stored keeper.old) → OnOk result (K.stored keeper.new ≡ mean (job_of dag.now inputs.now)) }
+    ensures reached { OnOk result (windows ≤ K.last keeper.new) }
+    ensures sound { OnOk result (IsTrue (K.sound keeper.new)) }
+    ensures later { K.faults keeper.old ≤ K.faults keeper.new }
+    ensures stop { IfErr result (IsStoreStop (job_of dag.now inputs.now) (Rose (K.faults keeper.old) (K.faults keeper.new))) }
+{
+    let first = keeper.last();
+    let mut pass = match OnePass::new(alloc, dag, inputs) {
+        Ok(pass) => pass,
+        Err(_) => return Err(Stop::Memory),
+    };
+    for done in 0..windows {
+        let (next, rows) = next_window(alloc, pass)?;
+        pass = next;
+        if first <= done {
+            commit(keeper, done + 1, &rows)?;
+        }
+    }
+    Ok(())
+}
