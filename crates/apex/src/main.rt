@@ -7,7 +7,7 @@ mod folder;
 mod out;
 
 use apx_device::{Failed, MemoryKeeper, Out};
-use apx_top::{Devices, apex_plain};
+use apx_top::{Devices, Ended, apex_plain};
 use folder::RealFolder;
 use out::RealOut;
 use std::alloc::AllocError;
@@ -39,8 +39,12 @@ fn main(rt: HostRuntime) -> ExitCode {
     let mut files = RealFolder::new(&rt);
     let keeper = MemoryKeeper::new(alloc);
     let devices = Devices { keeper };
-    let ended = apex_plain(alloc, &words, &mut files, devices, &mut out, &mut err);
-    ExitCode::from(exit_status(ended.status, out.finish()))
+    let Ended {
+        status,
+        end: _,
+        devices: Devices { keeper: _ },
+    } = apex_plain(alloc, &words, &mut files, devices, &mut out, &mut err);
+    ExitCode::from(exit_status(status, out.finish()))
 }
 
 // The words after the program's name. With a word that isn't text there are none, which is no command.
