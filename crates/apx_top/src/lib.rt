@@ -3,6 +3,8 @@
 
 pub use plain::{Devices, Ended, apex_plain};
 
+#[cfg(test)]
+mod examples;
 mod plain;
 mod print;
 mod say;
