@@ -8,4 +8,6 @@ mod print;
 mod say;
 mod sim;
 mod store;
+#[cfg(test)]
+mod tests;
 mod write;
