@@ -10,4 +10,6 @@ mod print;
 mod say;
 mod sim;
 mod store;
+#[cfg(test)]
+mod tests;
 mod write;
