@@ -8,7 +8,7 @@ use Rattle.apx_dag.specs.declared.link.Link.{Link}
 use Rattle.apx_dag.specs.Dag.{IsDag, nodes_in, key_texts, node_names}
 use Rattle.apx_dag.specs.Graph.{IsRefused, cycle, graph_of, sources_in, sources_of}
 use Rattle.apx_dag.specs.Marks.{IsFirstLoop}
-use Rattle.apx_dag.specs.Order.{IsOrder}
+use Rattle.apx_dag.specs.Order.{IsLinkOrder}
 use Rattle.apx_dag.specs.Ports.{link_of, links_of}
 use Rattle.apx_dag.specs.Rules.{before_cycles, after_cycles}
 use Rattle.apx_dag.proofs.Inversions.{holds_before, holds_after}
@@ -21,7 +21,7 @@ is_cycle app links i o place before same first is name =
     let here : i < length app.operators = omega (arith, loop.here, length-map app.operators (link_of app)) in
     cycle before loop refl (name ∙ name_read app.operators i o here is)
 
-pub is_dag : (app : Application) (links : List Link) (entries : List (Vec ℕ × Node)) (order : List ℕ) → before_cycles app ≡ Ok tt → after_cycles app ≡ Ok tt → links ≡ links_of app → IsOrder links order → nodes_in entries ≡ graph_of app → key_texts entries ≡ node_names entries → IsDag entries order
+pub is_dag : (app : Application) (links : List Link) (entries : List (Vec ℕ × Node)) (order : List ℕ) → before_cycles app ≡ Ok tt → after_cycles app ≡ Ok tt → links ≡ links_of app → IsLinkOrder links order → nodes_in entries ≡ graph_of app → key_texts entries ≡ node_names entries → IsDag entries order
 is_dag app links entries order before after same ordered nodes named =
     let holds = holds_before app before in
     let sources : sources_in (nodes_in entries) ≡ links = ap (map sources_of) nodes ∙ graph_sources app holds ∙ sym same in

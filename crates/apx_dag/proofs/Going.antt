@@ -8,7 +8,7 @@ use Rattle.apx_pass.specs.Graph.{Role, Input, Inner, Sink, Node, node_at}
 use Rattle.apx_pass.specs.Order.{OfPorts, IsBefore, IsOrder as CanGo}
 use Rattle.apx_dag.specs.declared.link.Link.{Link}
 use Rattle.apx_dag.specs.Graph.{link_by, sources_of, sources_in}
-use Rattle.apx_dag.specs.Order.{link_at, IsSource, IsOrder}
+use Rattle.apx_dag.specs.Order.{link_at, IsSource, IsLinkOrder}
 
 before-from-take : (order : List ℕ) (k a : ℕ) → Contains (take k order) a → IsBefore order k a
 before-from-take order k a c =
@@ -38,7 +38,7 @@ ports-fed Sink left right P f = f left (inl refl)
 link-of-node : (nodes : List Node) (i : ℕ) → i < length nodes → link_at (sources_in nodes) i ≡ sources_of (node_at nodes i)
 link-of-node nodes i h = get_or-map sources_of nodes i _ _ h
 
-pub can-go : (nodes : List Node) (order : List ℕ) → IsOrder (sources_in nodes) order → CanGo nodes order
+pub can-go : (nodes : List Node) (order : List ℕ) → IsLinkOrder (sources_in nodes) order → CanGo nodes order
 can-go nodes order o =
     let long : length (sources_in nodes) ≡ length nodes = length-map nodes sources_of in
     let known = λ (k : ℕ) (h : k < length order). o.next k h in

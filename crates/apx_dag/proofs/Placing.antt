@@ -5,7 +5,7 @@ use Rattle.std.proofs.lemmas.List.{take-append-le, get_or_append_left, length-re
 use Rattle.std.proofs.lemmas.List.Elements.{Contains-append_left, Contains-push, Contains-push_cases}
 use Rattle.std.proofs.Math.Seq.{take-append_seam, get_or-append_seam}
 use Rattle.apx_dag.specs.declared.link.Link.{Link}
-use Rattle.apx_dag.specs.Order.{IsWithin, IsAcyclic, IsReady, IsNext, IsOrder}
+use Rattle.apx_dag.specs.Order.{IsWithin, IsAcyclic, IsReady, IsNext, IsLinkOrder}
 use Rattle.apx_dag.specs.Marks.{mark_at, IsReadyMark, IsNextMark, IsStuck}
 use Rattle.apx_dag.proofs.Marking.{unset, unset_falls, none_unset, none_set, all_unset, set_keeps, set_at, set_cases}
 use Rattle.apx_dag.proofs.Walk.{loops}
@@ -81,7 +81,7 @@ module _ (links : List Link) (marks : List Bool) (order : List ℕ) (within : Is
     by true e = e
     by false e = let r = loops links marks within stuck i lt e in absurd (acyclic r.0 r.1 r.2)
 
-  pub all_placed : IsOrder links order
+  pub all_placed : IsLinkOrder links order
   all_placed = record {
     next = so_far.next;
     each = λ i lt. so_far.there i (each_marked i lt);

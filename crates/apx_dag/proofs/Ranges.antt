@@ -15,7 +15,7 @@ use Rattle.apx_dag.specs.declared.class.Class.TheVariants.{Lines, Pairs, Keep, S
 use Rattle.apx_dag.specs.Class.{is_end}
 use Rattle.apx_dag.specs.Role.{takes, within, natural_in, natural_named, integer_named, value_named, text_of, input_of, built, role_of}
 use Rattle.apx_dag.specs.Rules.{is_one}
-use Rattle.apx_dag.specs.Valid.{IsKind, IsRole, IsEnd}
+use Rattle.apx_dag.specs.Valid.{IsKind, IsRole, IsEndpoint}
 use Rattle.apx_dag.proofs.Finding.{and_true, map_some, then_some, some_is}
 use Rattle.apx_dag.proofs.Roles.{tested}
 
@@ -51,7 +51,7 @@ natural_range low high name properties x e =
 -- what a role tells of its class
 pub record Tells (class : Class) (role : Role) : Type 0 where
   pub ranges : IsRole role
-  pub at_end : IsEnd role → is_end class ≡ true
+  pub at_end : IsEndpoint role → is_end class ≡ true
   pub sink : role ≡ Sink → class ≡ Store
 
 input_tells : (class : Class) (kind : InputKind) (properties : List Property) (role : Role) → is_end class ≡ true → input_of kind properties ≡ Some role → Tells class role

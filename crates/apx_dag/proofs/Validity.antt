@@ -12,11 +12,11 @@ use Rattle.apx_dag.specs.declared.class.Class.{Class}
 use Rattle.apx_dag.specs.declared.class.Class.TheVariants.{Store}
 use Rattle.apx_dag.specs.Class.{class_of, is_end}
 use Rattle.apx_dag.specs.Graph.{node_of, nodes_from, graph_of, sources_of, sources_in, link_by}
-use Rattle.apx_dag.specs.Order.{IsSource, Feeds, Reaches, at_once, through, IsOrder, link_at}
+use Rattle.apx_dag.specs.Order.{IsSource, Feeds, Reaches, at_once, through, IsLinkOrder, link_at}
 use Rattle.apx_dag.specs.Ports.{is_named, is_port, is_source, is_sink, has_output, left_port, right_port, source_of, link_of, links_of}
 use Rattle.apx_dag.specs.Role.{role_of, role_in}
 use Rattle.apx_dag.specs.Rules.{operator_name, is_class, is_store, is_one}
-use Rattle.apx_dag.specs.Valid.{IsInput, IsNode, IsFed, IsGraph}
+use Rattle.apx_dag.specs.Valid.{IsInputRole, IsNode, IsFed, IsGraph}
 use Rattle.apx_dag.proofs.Finding.{and_true, not_false, map_none, then_some, map_or_true, none_found, found_at, any_found, nothing, some_is}
 use Rattle.apx_dag.proofs.Inversions.{HoldsBefore, HoldsAfter}
 use Rattle.apx_dag.proofs.Ranges.{kept_range, one_is, role_tells, Tells}
@@ -82,7 +82,7 @@ extends links a b c (at_once f) g = through f (at_once g)
 extends links a b c (through {b = m} f r) g = through f (extends links m b c r g)
 
 -- an operator that isn't an input has a source on the left
-left_source : (role : Role) (left right : ℕ) → IsInput role ⊎ ((link_by role left right).left ≡ Some left)
+left_source : (role : Role) (left right : ℕ) → IsInputRole role ⊎ ((link_by role left right).left ≡ Some left)
 left_source (Input kind file per_window) left right = inl tt
 left_source (Inner kind) left right = inr refl
 left_source Sink left right = inr refl
@@ -123,7 +123,7 @@ module _ (app : Application) (before : HoldsBefore app) (after : HoldsAfter app)
       rw (p.node d) (record {
         role = rw p.role_is t.ranges;
         partitions = kept_range 1 8 1 p.operator.partitions (omega arith) (omega arith);
-        gathers = kept_range 1 20000 1 p.operator.app_windows (omega arith) (omega arith);
+        app_windows = kept_range 1 20000 1 p.operator.app_windows (omega arith) (omega arith);
         alone = λ h.
             let end = t.at_end (rw p.role_is at h) in (
               (one_is p.operator.partitions (end_alone k p lt (λ o. is_one o.partitions) (map_none operator_name _ after.whole_ends) end)).0,
@@ -185,7 +185,7 @@ sources_at : (nodes : List Node) (i : ℕ) → i < length nodes → link_at (sou
 sources_at nodes i lt = get_or-map sources_of nodes i _ no_link lt
 
 -- each operator of an order is an input or reached from one
-module _ (nodes : List Node) (order : List ℕ) (ordered : IsOrder (sources_in nodes) order) where
+module _ (nodes : List Node) (order : List ℕ) (ordered : IsLinkOrder (sources_in nodes) order) where
   count : length (sources_in nodes) ≡ length nodes
   count = length-map nodes sources_of
 
@@ -219,7 +219,7 @@ module _ (nodes : List Node) (order : List ℕ) (ordered : IsOrder (sources_in n
       let is : get_or order stands.0 0 ≡ i = get_or_default order stands.0 0 i stands.1 ∙ stands.2 in
       subst (IsFed nodes) is (fed_at (suc stands.0) stands.0 (omega arith) stands.1)
 
-pub is_graph : (app : Application) (order : List ℕ) → HoldsBefore app → HoldsAfter app → IsOrder (sources_in (graph_of app)) order → IsGraph (graph_of app)
+pub is_graph : (app : Application) (order : List ℕ) → HoldsBefore app → HoldsAfter app → IsLinkOrder (sources_in (graph_of app)) order → IsGraph (graph_of app)
 is_graph app order before after ordered =
     let count : length (graph_of app) ≡ length app.operators = nodes_count app app.operators 0 in
     let sink = one_sink app before after in

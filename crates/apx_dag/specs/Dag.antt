@@ -2,7 +2,7 @@
 use Rattle.std.specs.Prelude.{◌≡◌, ℕ, ◌≤◌, List, length, map}
 use Rattle.std.specs.Global.{Vec}
 use Rattle.apx_pass.specs.Graph.{Node}
-use Rattle.apx_dag.specs.Order.{IsOrder}
+use Rattle.apx_dag.specs.Order.{IsLinkOrder}
 use Rattle.apx_dag.specs.Graph.{sources_in}
 use Rattle.apx_dag.specs.Valid.{IsGraph}
 
@@ -19,5 +19,5 @@ node_names entries = map (λ e. e.1.name) entries
 pub record IsDag (entries : List (Vec ℕ × Node)) (order : List ℕ) : Type 0 where
   pub few : length entries ≤ 16
   pub named : key_texts entries ≡ node_names entries
-  pub ordered : IsOrder (sources_in (nodes_in entries)) order
+  pub ordered : IsLinkOrder (sources_in (nodes_in entries)) order
   pub valid : IsGraph (nodes_in entries)

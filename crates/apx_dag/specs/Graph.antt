@@ -22,7 +22,7 @@ node_by i o link = record {
   partitions = unwrap_or (within 1 8 o.partitions) 1;
   left = unwrap_or link.left i;
   right = unwrap_or link.right i;
-  gathers = unwrap_or (within 1 20000 o.app_windows) 1;
+  app_windows = unwrap_or (within 1 20000 o.app_windows) 1;
 }
 
 abbrev pub node_of : Application → ℕ → Operator → Node

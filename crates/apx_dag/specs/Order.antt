@@ -39,7 +39,7 @@ pub record IsNext (links : List Link) (placed : List ℕ) (i : ℕ) : Type 0 whe
 
 -- At each step comes the earliest operator whose sources are placed, and each operator comes. So each
 -- comes once, after its sources.
-pub record IsOrder (links : List Link) (order : List ℕ) : Type 0 where
+pub record IsLinkOrder (links : List Link) (order : List ℕ) : Type 0 where
   pub next : (k : ℕ) → k < length order → IsNext links (take k order) (slice_index order k)
   pub each : (i : ℕ) → i < length links → Contains order i
   pub size : length order ≡ length links

@@ -18,26 +18,26 @@ IsRole (Input kind file per_window) = (1 ≤ per_window) × (per_window ≤ 1000
 IsRole (Inner kind) = IsKind kind
 IsRole Sink = Unit {0}
 
-abbrev pub IsInput : Role → Type 0
-IsInput (Input kind file per_window) = Unit {0}
-IsInput (Inner kind) = ⊥
-IsInput Sink = ⊥
+abbrev pub IsInputRole : Role → Type 0
+IsInputRole (Input kind file per_window) = Unit {0}
+IsInputRole (Inner kind) = ⊥
+IsInputRole Sink = ⊥
 
 -- an input or the sink
-abbrev pub IsEnd : Role → Type 0
-IsEnd (Input kind file per_window) = Unit {0}
-IsEnd (Inner kind) = ⊥
-IsEnd Sink = Unit {0}
+abbrev pub IsEndpoint : Role → Type 0
+IsEndpoint (Input kind file per_window) = Unit {0}
+IsEndpoint (Inner kind) = ⊥
+IsEndpoint Sink = Unit {0}
 
 pub record IsNode (node : Node) : Type 0 where
   pub role : IsRole node.role
   pub partitions : (1 ≤ node.partitions) × (node.partitions ≤ 8)
-  pub gathers : (1 ≤ node.gathers) × (node.gathers ≤ 20000)
-  pub alone : IsEnd node.role → (node.partitions ≡ 1) × (node.gathers ≡ 1)
+  pub app_windows : (1 ≤ node.app_windows) × (node.app_windows ≤ 20000)
+  pub alone : IsEndpoint node.role → (node.partitions ≡ 1) × (node.app_windows ≡ 1)
 
 -- an input, or one that is reached from an input
 abbrev pub IsFed : List Node → ℕ → Type 0
-IsFed nodes i = IsInput (node_at nodes i).role ⊎ ((a : ℕ) × (a < length nodes) × IsInput (node_at nodes a).role × Reaches (sources_in nodes) a i)
+IsFed nodes i = IsInputRole (node_at nodes i).role ⊎ ((a : ℕ) × (a < length nodes) × IsInputRole (node_at nodes a).role × Reaches (sources_in nodes) a i)
 
 -- Each source is an operator that isn't the sink, there is one sink, and each operator that isn't an
 -- input is reached from one.

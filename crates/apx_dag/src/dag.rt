@@ -8,7 +8,7 @@ ghost use Rattle.apx_pass.specs.Order as passing;
 ghost use Rattle.apx_dag.specs.Dag.{nodes_in, key_texts, node_names};
 ghost use Rattle.apx_dag.specs.Graph.{node_by, graph_of, sources_in, Answers};
 ghost use Rattle.apx_dag.specs.Names.{named_again};
-ghost use Rattle.apx_dag.specs.Order.{IsSource, IsOrder};
+ghost use Rattle.apx_dag.specs.Order.{IsSource, IsLinkOrder};
 ghost use Rattle.apx_dag.specs.Ports.{link_of, links_of};
 ghost use Rattle.apx_dag.specs.Rules.{operator_name};
 ghost use Rattle.apx_dag.specs.Valid.{IsGraph};
@@ -57,10 +57,10 @@ fn node(alloc: Global, i: usize, operator: &OperatorText, link: Link) -> Result<
     Ok(Node {
         name: operator.name.copy()?,
         role: operator_role(alloc, operator)?.unwrap_or(Role::Sink),
-        parts: whole(operator.partitions, 1, 8).unwrap_or(1) as u8,
+        partitions: whole(operator.partitions, 1, 8).unwrap_or(1) as u8,
         left: number(i, link.left),
         right: number(i, link.right),
-        group: whole(operator.app_windows, 1, 20_000).unwrap_or(1),
+        app_windows: whole(operator.app_windows, 1, 20_000).unwrap_or(1),
     })
 }
 
@@ -176,7 +176,7 @@ impl Dag {
     /// The operators' numbers in an order in which they can step: each once,
     /// at each place the earliest of the file whose sources stand before it.
     pub fn order(&self) -> &[u16]
-        ensures earliest { IsOrder (sources_in self.now) result.now }
+        ensures earliest { IsLinkOrder (sources_in self.now) result.now }
         ensures goes { passing.IsOrder self.now result.now }
     {
         &self.order

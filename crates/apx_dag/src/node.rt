@@ -10,14 +10,14 @@ pub struct Node {
     pub name: Name,
     pub role: Role,
     /// How many partitions there are at the start: 1 to 8.
-    pub parts: u8,
+    pub partitions: u8,
     /// The number of the operator that the first input port reads, its own
     /// number where there is no such port.
     pub left: u16,
     /// The same of the second input port.
     pub right: u16,
     /// How many windows there are to one step: 1 to 20,000.
-    pub group: u32,
+    pub app_windows: u32,
 }
 
 impl Model for Node {
@@ -26,5 +26,5 @@ impl Model for Node {
 
     ghost Value = { graph.Node };
 
-    ghost view = { λ n. record { name = n.name; role = role_view n.role; partitions = n.parts; left = n.left; right = n.right; gathers = n.group } };
+    ghost view = { λ n. record { name = n.name; role = role_view n.role; partitions = n.partitions; left = n.left; right = n.right; app_windows = n.app_windows } };
 }

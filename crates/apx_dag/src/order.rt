@@ -1,7 +1,7 @@
 //! Which operators are reached from themselves, and the order of the others.
 
 ghost use Rattle.std.specs.Prelude.{◌≡◌, ◌<◌, ◌≤◌, ℕ, Bool, true, false, length, IfOk, MatchOption, Some, None, Option, replicate};
-ghost use Rattle.apx_dag.specs.Order.{IsSource, IsWithin, Reaches, IsAcyclic, IsReady, IsOrder, link_at, Feeds};
+ghost use Rattle.apx_dag.specs.Order.{IsSource, IsWithin, Reaches, IsAcyclic, IsReady, IsLinkOrder, link_at, Feeds};
 ghost use Rattle.apx_dag.specs.Marks.{mark_at, AreMarked, IsUnmarked, IsMarkedIf, IsOpen, IsUpstreamNext, IsUpstreamDone, IsUpstream, IsFirstLoop, IsStuck, IsNextMark};
 
 use crate::link::Link;
@@ -107,7 +107,7 @@ pub(crate) fn order(alloc: Global, links: &[Link]) -> Result<Vec<u16>, AllocErro
     requires few { length links.now ≤ 16 }
     requires within { IsWithin links.now }
     requires acyclic { IsAcyclic links.now }
-    ensures { IfOk result (λ order. IsOrder links.now order.items) }
+    ensures { IfOk result (λ order. IsLinkOrder links.now order.items) }
 {
     let mut placed = no_marks(alloc, links.len())?;
     let mut order = Vec::new(alloc);

@@ -207,13 +207,13 @@ fn a_graph_has_its_operators_and_their_order(rt: HostRuntime) -> Result<(), Fail
     assert_eq!(rt; dag.find(b"joins"), None);
     let join = dag.node(2);
     assert_eq!(rt;
-        (join.left, join.right, join.parts, join.group),
+        (join.left, join.right, join.partitions, join.app_windows),
         (4, 3, 1, 1)
     );
     assert!(rt; matches!(join.role, Role::Inner(Kind::Match)));
     let tally = dag.node(0);
     assert_eq!(rt;
-        (tally.left, tally.right, tally.parts, tally.group),
+        (tally.left, tally.right, tally.partitions, tally.app_windows),
         (2, 0, 2, 3)
     );
     let Role::Input {

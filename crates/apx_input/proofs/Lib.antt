@@ -1,5 +1,5 @@
 pub mod Ends
 pub mod Keeping
 pub mod Taking
-pub mod Telling
+pub mod Reporting
 pub mod Walking

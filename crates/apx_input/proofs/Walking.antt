@@ -9,7 +9,7 @@ use Rattle.apx_pass.proofs.Grouping.{groups_are}
 use Rattle.apx_pass.proofs.Pieces.{lines_first, lines_empty}
 use Rattle.apx_pass.proofs.Refusing.{refused_many, refused_here, no_lines_refused}
 use Rattle.apx_input.specs.Starts.{IsStart, AreStarts}
-use Rattle.apx_input.specs.Texts.{IsEnd}
+use Rattle.apx_input.specs.Texts.{IsRest}
 
 -- a text has a line
 pub some_lines : (text : List ℕ) → 0 < length text → 0 < length (lines text)
@@ -27,7 +27,7 @@ many_windows kind per_window number (byte ∷ bytes) text h many e =
 
 module _ (per_window : ℕ) (text : List ℕ) where
   -- the rest begins the next window
-  pub next_start : (rest : List ℕ) (k : ℕ) → 0 < length rest → IsEnd text rest → lines rest ≡ drop (k * per_window) (lines text) → IsStart per_window text k (length text - length rest)
+  pub next_start : (rest : List ℕ) (k : ℕ) → 0 < length rest → IsRest text rest → lines rest ≡ drop (k * per_window) (lines text) → IsStart per_window text k (length text - length rest)
   next_start rest k h end behind =
       let some : 0 < length (lines rest) = some_lines rest h in
       record {

@@ -4,7 +4,7 @@ use Rattle.std.specs.Borrow.{Bor}
 use Rattle.apx_tuple.specs.declared.tuple.Tuple.{Tuple}
 
 -- rest is what some place of the text begins
-pub record IsEnd (text rest : List ℕ) : Type 0 where
+pub record IsRest (text rest : List ℕ) : Type 0 where
   pub shorter : length rest ≤ length text
   pub same : rest ≡ drop (length text - length rest) text
 

@@ -1,7 +1,7 @@
 //! The lines of a text, from its front on.
 ghost use Rattle.std.specs.Prelude.{◌≡◌, ◌==◌, ◌∷◌, [], ◌<◌, length, MatchOption, IfSome, position};
 ghost use Rattle.apx_pass.specs.Lines.{lines, without_cr};
-ghost use Rattle.apx_input.specs.Texts.{IsEnd};
+ghost use Rattle.apx_input.specs.Texts.{IsRest};
 
 const LF: u8 = b'\n';
 
@@ -12,7 +12,7 @@ const CR: u8 = b'\r';
 pub(crate) fn next_line(text: &[u8]) -> Option<(&[u8], &[u8])>
     ensures lines { MatchOption result (lines text.now ≡ []) (λ p. lines text.now ≡ p.0.now ∷ lines p.1.now) }
     ensures shorter { MatchOption result (text.now ≡ []) (λ p. length p.1.now < length text.now) }
-    ensures rest { IfSome result (λ p. IsEnd text.now p.1.now) }
+    ensures rest { IfSome result (λ p. IsRest text.now p.1.now) }
 {
     if text.is_empty() {
         return None;

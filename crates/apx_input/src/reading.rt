@@ -2,8 +2,8 @@
 ghost use Rattle.std.specs.Prelude.{◌≡◌, ◌≢◌, ◌⊎◌, ℕ, ◌+◌, ◌*◌, ◌≤◌, drop, length, None, IfOk, IfErr, OnOk, MatchResult};
 ghost use Rattle.apx_pass.specs.Groups.{Refused, input_of, groups, first_refused, first_refused_from, refused_at};
 ghost use Rattle.apx_pass.specs.Lines.{lines};
-ghost use Rattle.apx_input.specs.Refusals.{Tells, refusal_of};
-ghost use Rattle.apx_input.specs.Texts.{IsEnd};
+ghost use Rattle.apx_input.specs.Refusals.{Reports, refusal_of};
+ghost use Rattle.apx_input.specs.Texts.{IsRest};
 ghost use Rattle.apx_input.specs.Starts.{AreStarts};
 
 use crate::line::next_line;
@@ -39,8 +39,8 @@ pub fn windows(
     // Where a line is refused, the answer is the refusal of the first one, unless memory runs out.
     ensures exact { (refused : Refused) → first_refused (input_of kind per_window bytes.now) ≡ Some refused →
         (result ≡ Err (refusal_of refused)) ⊎ (result ≡ Err LineRefusal.Memory) }
-    // And a refusal tells the first refused line and its cause.
-    ensures refused { IfErr result (λ refusal. Tells refusal (first_refused (input_of kind per_window bytes.now))) }
+    // And a refusal reports the first refused line and its cause.
+    ensures refused { IfErr result (λ refusal. Reports refusal (first_refused (input_of kind per_window bytes.now))) }
 {
     let starts = window_starts(alloc, kind, per_window, bytes)?;
     Ok(Windows {
@@ -64,7 +64,7 @@ fn window_starts(
     ensures count { IfOk result (λ starts. length starts.items ≡ groups (input_of kind per_window bytes.now)) }
     ensures few { IfOk result (λ starts. length starts.items ≤ 20000) }
     ensures accepted { OnOk result (first_refused_from kind per_window 1 (lines bytes.now) ≡ None) }
-    ensures refused { IfErr result (λ refusal. Tells refusal (first_refused_from kind per_window 1 (lines bytes.now))) }
+    ensures refused { IfErr result (λ refusal. Reports refusal (first_refused_from kind per_window 1 (lines bytes.now))) }
 {
     let mut starts = Vec::new(alloc);
     let mut rest = bytes;
@@ -87,13 +87,13 @@ fn after_window(
     text: &[u8],
 ) -> Result<&[u8], LineRefusal>
     requires { first + per_window ≤ 20000 * per_window + 1 }
-    ensures rest { IfOk result (λ rest. IsEnd text.now rest.now) }
+    ensures rest { IfOk result (λ rest. IsRest text.now rest.now) }
     ensures lines { IfOk result (λ rest. lines rest.now ≡ drop per_window (lines text.now)) }
     // None of these lines is refused.
     ensures same { IfOk result (λ rest.
         first_refused_from kind per_window (first + per_window) (lines rest.now)
         ≡ first_refused_from kind per_window first (lines text.now)) }
-    ensures refused { IfErr result (λ refusal. Tells refusal (first_refused_from kind per_window first (lines text.now))) }
+    ensures refused { IfErr result (λ refusal. Reports refusal (first_refused_from kind per_window first (lines text.now))) }
 {
     let mut rest = text;
     for done in 0..per_window {
@@ -113,7 +113,7 @@ fn judge(kind: InputKind, number: u64, line: &[u8]) -> Result<(), LineRefusal>
     ensures { (per_window : ℕ) → number ≢ 20000 * per_window + 1 →
         MatchResult result
         (λ _. refused_at kind per_window number line.now ≡ None)
-        (λ refusal. Tells refusal (refused_at kind per_window number line.now)) }
+        (λ refusal. Reports refusal (refused_at kind per_window number line.now)) }
 {
     if line.len() > MAX_LINE_LEN {
         return Err(LineRefusal::TooLong { line: number });

@@ -94,17 +94,17 @@ attribute_at place name d = attribute_of (member_path place name) (get name d)
 
 -- ---- operators
 
-abbrev pub value_of : Data → PropertyValue
-value_of null = Other
-value_of (boolean b) = Other
-value_of (number n) = option_map_or Number (as_i64 n) Other
-value_of (string s) = Text s
-value_of (array ds) = Other
-value_of (object ms) = Other
+abbrev pub property_value_of : Data → PropertyValue
+property_value_of null = Other
+property_value_of (boolean b) = Other
+property_value_of (number n) = option_map_or Number (as_i64 n) Other
+property_value_of (string s) = Text s
+property_value_of (array ds) = Other
+property_value_of (object ms) = Other
 
 abbrev pub properties_of : Members → List Property
 properties_of no_members = []
-properties_of (member name d ms) = record { name = name; value = value_of d } ∷ properties_of ms
+properties_of (member name d ms) = record { name = name; value = property_value_of d } ∷ properties_of ms
 
 -- the properties, none where they are absent
 unfoldable pub properties_at : ℕ → Option Data → Shaped (List Property)

@@ -2,7 +2,7 @@
 
 ghost use Rattle.std.specs.Prelude.{◌≡◌, IfOk, option_map};
 ghost use Rattle.serde_json.specs.View.{view, items_view, members_view};
-ghost use Rattle.apx_json.specs.Shape.{Gives, value_of, properties_of, properties_at, attributes_at, operator_at, each_at};
+ghost use Rattle.apx_json.specs.Shape.{Gives, property_value_of, properties_of, properties_at, attributes_at, operator_at, each_at};
 
 use crate::member::{attribute, object, text};
 use crate::name::Name;
@@ -13,7 +13,7 @@ use serde_json::{Map, Value};
 use std::alloc::{AllocError, Global};
 
 fn property_value(alloc: Global, value: &Value) -> Result<PropertyValue, AllocError>
-    ensures { IfOk result (λ found. found ≡ value_of (view value.now)) }
+    ensures { IfOk result (λ found. found ≡ property_value_of (view value.now)) }
 {
     Ok(match value {
         Value::Number(number) => match number.as_i64() {

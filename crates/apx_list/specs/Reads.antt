@@ -9,9 +9,9 @@ use Rattle.apx_list.specs.Listed.{Listed, next_number}
 
 -- The block with the number, which spells what it says; NotYet exactly at the next number. No block lies in
 -- the spool so far, so that no fault and no damage comes.
-abbrev pub Gives : {N F : Type 0} → Listed N → ℕ → Result Read (ListFault F) → Type 0
-Gives list place (Ok (ReadBlock block)) = (slice_get list.blocks (place - list.first) ≡ Some block) × Spells list.plan block
-Gives list place (Ok NotYet) = place ≡ next_number list
-Gives list place (Err Memory) = place < next_number list
-Gives list place (Err (Fault fault)) = ⊥
-Gives list place (Err (Damaged number window index last bytes)) = ⊥
+abbrev pub GivesBlock : {N F : Type 0} → Listed N → ℕ → Result Read (ListFault F) → Type 0
+GivesBlock list place (Ok (ReadBlock block)) = (slice_get list.blocks (place - list.first) ≡ Some block) × Spells list.plan block
+GivesBlock list place (Ok NotYet) = place ≡ next_number list
+GivesBlock list place (Err Memory) = place < next_number list
+GivesBlock list place (Err (Fault fault)) = ⊥
+GivesBlock list place (Err (Damaged number window index last bytes)) = ⊥

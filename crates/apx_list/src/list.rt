@@ -2,7 +2,7 @@
 ghost use Rattle.std.specs.Prelude.{◌≡◌, ◌≤◌, [], List, Option, OnOk, OnErr};
 ghost use Rattle.apx_list.specs.Plan.{IsPlan};
 ghost use Rattle.apx_list.specs.Listed.{IsNext, with_block, next_number, IsPurged, IsDropped, start_of};
-ghost use Rattle.apx_list.specs.Reads.{Gives};
+ghost use Rattle.apx_list.specs.Reads.{GivesBlock};
 
 use crate::block::Block;
 use crate::plan::CutPlan;
@@ -120,7 +120,7 @@ impl<S: Spool + Drop, N: Naming + Drop> DataList<S, N> {
     pub fn read(&mut self, place: u64) -> Result<Read, ListFault<S::Fault>>
         requires kept { self.old.first ≤ place }
         requires there { place ≤ next_number self.old }
-        ensures read { Gives self.old place result }
+        ensures read { GivesBlock self.old place result }
         ensures list { self.new ≡ self.old }
     {
         let Some(block) = self.blocks.get((place - self.first) as usize) else {

@@ -1,4 +1,4 @@
--- Words and files are read in one way: a run's job is one, what is refused first is one, and no words
+-- Words and files are read in one way: a run's dataflow is one, what is refused first is one, and no words
 -- and files have both.
 use Rattle.std.proofs.Common.{◌≡◌, ℕ, ◌<◌, ◌⊎◌, inl, inr, List, [], ◌∷◌, length, Option, Some, None, Ok, Err, arith, refl, ap, sym, subst, ◌∙◌}
 use Rattle.apx_device.specs.Folder.{IsPast}
@@ -13,7 +13,7 @@ use Rattle.apx_dag.specs.Ports.{links_of}
 use Rattle.apx_pass.specs.Graph.{Role, Input, Inner, Sink, Node}
 use Rattle.apx_pass.specs.Groups as groups
 use Rattle.apx_pass.specs.Groups.{Cause, Refused, input_of, first_refused}
-use Rattle.apx_pass.specs.Pass.{Job}
+use Rattle.apx_pass.specs.Pass.{Dataflow}
 use Rattle.apx_load.specs.declared.refusal.LineCause.{LineCause}
 use Rattle.apx_load.specs.declared.refusal.LineCause.TheVariants as cause
 use Rattle.apx_load.specs.declared.refusal.Refusal.{Refusal}
@@ -21,7 +21,7 @@ use Rattle.apx_load.specs.declared.refusal.Refusal.TheVariants.{NotACommand, NoF
 use Rattle.apx_load.specs.declared.words.Action.{Action}
 use Rattle.apx_load.specs.declared.words.Action.TheVariants.{Sim}
 use Rattle.apx_load.specs.Words.{command_of}
-use Rattle.apx_load.specs.Refusals.{Told, IsAppText, IsTextRefusal, IsFile, IsFileRefusal, IsApplication, IsApplicationRefusal, cause_view, IsInputOf, IsLineRefusal, IsInputRefusal, AreInputs, IsInputsRefusal, IsJob, IsRefusal, of_words, of_application, of_inputs}
+use Rattle.apx_load.specs.Refusals.{Told, IsAppText, IsTextRefusal, IsFile, IsFileRefusal, IsApplication, IsApplicationRefusal, cause_view, IsInputOf, IsLineRefusal, IsInputRefusal, AreInputs, IsInputsRefusal, IsDataflow, IsRefusal, of_words, of_application, of_inputs}
 
 -- at most one thing is accepted, at most one refusal comes, and never both
 pub record IsDecided (X : Type 0) (A : X → Type 0) (R : Refusal → Type 0) : Type 0 where
@@ -283,31 +283,31 @@ command_apart told action name nodes inputs r app are (inl q) = (application_dec
 command_apart told action name nodes inputs r app are (inr q) =
     inputs_apart told nodes inputs r are (subst (λ (n : List Node). IsInputsRefusal told n r) ((application_decided told name).accepted q.0 nodes q.1 app) q.2)
 
-words_apart : (words : List (List ℕ)) (told : Told) (job : Job) (r : Refusal) → IsJob words told job → IsWordsRefusal words told r → ⊥
-words_apart words told job r is (inl q) = let a = is.command in let b = q.1 in cc
-words_apart words told job r is (inr q) =
+words_apart : (words : List (List ℕ)) (told : Told) (flow : Dataflow) (r : Refusal) → IsDataflow words told flow → IsWordsRefusal words told r → ⊥
+words_apart words told flow r is (inl q) = let a = is.command in let b = q.1 in cc
+words_apart words told flow r is (inr q) =
     let same : q.0 ≡ (Sim, is.name) = same_command words q.0 (Sim, is.name) q.1 is.command in
-    command_apart told Sim is.name job.nodes job.inputs r is.application is.inputs (subst (λ (c : Action × List ℕ). IsCommandRefusal told c.0 c.1 r) same q.2)
+    command_apart told Sim is.name flow.nodes flow.inputs r is.application is.inputs (subst (λ (c : Action × List ℕ). IsCommandRefusal told c.0 c.1 r) same q.2)
 
 -- the first refusal is one
 pub refusal-unique : (words : List (List ℕ)) (told : Told) (r s : Refusal) → IsRefusal words told r → IsRefusal words told s → r ≡ s
 refusal-unique words told r s p q = words_refused words told r s (by_words words told r p) (by_words words told s q)
 
--- what is refused has no job
-pub job-or-refusal : (words : List (List ℕ)) (told : Told) (job : Job) (r : Refusal) → IsJob words told job → IsRefusal words told r → ⊥
-job-or-refusal words told job r is refused = words_apart words told job r is (by_words words told r refused)
+-- what is refused has no dataflow
+pub dataflow-or-refusal : (words : List (List ℕ)) (told : Told) (flow : Dataflow) (r : Refusal) → IsDataflow words told flow → IsRefusal words told r → ⊥
+dataflow-or-refusal words told flow r is refused = words_apart words told flow r is (by_words words told r refused)
 
-abbrev pub job_of : List Node → List (Option groups.Input) → Job
-job_of nodes inputs = record { nodes = nodes; inputs = inputs }
+abbrev pub dataflow_of : List Node → List (Option groups.Input) → Dataflow
+dataflow_of nodes inputs = record { nodes = nodes; inputs = inputs }
 
-same_job : (nodes nodes2 : List Node) (inputs inputs2 : List (Option groups.Input)) → nodes ≡ nodes2 → inputs ≡ inputs2 → job_of nodes inputs ≡ job_of nodes2 inputs2
-same_job nodes nodes2 inputs inputs2 p q = cc
+same_dataflow : (nodes nodes2 : List Node) (inputs inputs2 : List (Option groups.Input)) → nodes ≡ nodes2 → inputs ≡ inputs2 → dataflow_of nodes inputs ≡ dataflow_of nodes2 inputs2
+same_dataflow nodes nodes2 inputs inputs2 p q = cc
 
--- the job is one
-pub job-unique : (words : List (List ℕ)) (told : Told) (job job2 : Job) → IsJob words told job → IsJob words told job2 → job ≡ job2
-job-unique words told job job2 p q =
+-- the dataflow is one
+pub dataflow-unique : (words : List (List ℕ)) (told : Told) (flow job2 : Dataflow) → IsDataflow words told flow → IsDataflow words told job2 → flow ≡ job2
+dataflow-unique words told flow job2 p q =
     let commands : (Sim, p.name) ≡ (Sim, q.name) = same_command words (Sim, p.name) (Sim, q.name) p.command q.command in
     let names : p.name ≡ q.name = ap (λ (c : Action × List ℕ). c.1) commands in
-    let nodes : job.nodes ≡ job2.nodes = application-unique told q.name job.nodes job2.nodes (subst (λ (name : List ℕ). IsApplication told name job.nodes) names p.application) q.application in
-    let inputs : job.inputs ≡ job2.inputs = inputs_accepted told job2.nodes job.inputs job2.inputs (subst (λ (n : List Node). AreInputs told n job.inputs) nodes p.inputs) q.inputs in
-    same_job job.nodes job2.nodes job.inputs job2.inputs nodes inputs
+    let nodes : flow.nodes ≡ job2.nodes = application-unique told q.name flow.nodes job2.nodes (subst (λ (name : List ℕ). IsApplication told name flow.nodes) names p.application) q.application in
+    let inputs : flow.inputs ≡ job2.inputs = inputs_accepted told job2.nodes flow.inputs job2.inputs (subst (λ (n : List Node). AreInputs told n flow.inputs) nodes p.inputs) q.inputs in
+    same_dataflow flow.nodes job2.nodes flow.inputs job2.inputs nodes inputs

@@ -3,7 +3,7 @@
 -- `told` gives the file under each name, where the folder tells.
 --     IsApplication told name nodes    the file is an application, and its graph
 --     AreInputs told nodes inputs      the files of the inputs are there and accepted, and what they hold
---     IsJob words told job             the words and files of a run are accepted, and its job
+--     IsDataflow words told dataflow             the words and files of a run are accepted, and its dataflow
 --     IsRefusal words told refusal     the first thing that is refused
 use Rattle.std.specs.Prelude.{◌≡◌, ℕ, ◌≤◌, ◌⊎◌, List, [], ◌∷◌, length, Option, Some, None, Ok, Err, ⊤}
 use Rattle.apx_device.specs.Folder.{IsPast}
@@ -15,7 +15,7 @@ use Rattle.apx_dag.specs.Graph.{Answers}
 use Rattle.apx_pass.specs.Graph.{Role, Input, Inner, Sink, Node}
 use Rattle.apx_pass.specs.Groups as groups
 use Rattle.apx_pass.specs.Groups.{Cause, TooMany, TooLong, BadPair, input_of, first_refused}
-use Rattle.apx_pass.specs.Pass.{Job}
+use Rattle.apx_pass.specs.Pass.{Dataflow}
 use Rattle.apx_load.specs.declared.refusal.LineCause.{LineCause}
 use Rattle.apx_load.specs.declared.refusal.LineCause.TheVariants as cause
 use Rattle.apx_load.specs.declared.refusal.Refusal.{Refusal}
@@ -102,12 +102,12 @@ IsInputsRefusal told (node ∷ nodes) refusal = IsInputRefusal told node.role re
 
 -- ---- words and files
 
--- the words are those of a run, and this is its job
-pub record IsJob (words : List (List ℕ)) (told : Told) (job : Job) : Type 0 where
+-- the words are those of a run, and this is its dataflow
+pub record IsDataflow (words : List (List ℕ)) (told : Told) (flow : Dataflow) : Type 0 where
   pub name : List ℕ
   pub command : command_of words ≡ Some (Sim, name)
-  pub application : IsApplication told name job.nodes
-  pub inputs : AreInputs told job.nodes job.inputs
+  pub application : IsApplication told name flow.nodes
+  pub inputs : AreInputs told flow.nodes flow.inputs
 
 -- the first refusal: the words, then the application, then each input
 pub data IsRefusal (words : List (List ℕ)) (told : Told) : Refusal → Type 0 where

@@ -1,4 +1,4 @@
-//! From the words of the command line and the files that they name to the job of a run, or to the first
+//! From the words of the command line and the files that they name to the dataflow of a run, or to the first
 //! thing that is refused.
 #![tactic(auto)]
 

@@ -19,14 +19,14 @@ choose : (b : Bool) (n : ℕ) (x y : Passed) → (n == 0) ≡ b → n ≢ 0 → 
 choose true n x y e h = absurd (h (eqb-true n 0 e))
 choose false n x y e h = refl
 
-module _ (kind : Kind) (gathers w : ℕ) (before : Progress) (left right : List Tuple) where
-  pub gather-steps : w % gathers ≡ 0 → gather kind gathers w before left right ≡ after_step (step kind (w / gathers) before.state (bag_of (before.left ++ left)) (bag_of (before.right ++ right)))
+module _ (kind : Kind) (app_windows w : ℕ) (before : Progress) (left right : List Tuple) where
+  pub gather-steps : w % app_windows ≡ 0 → gather kind app_windows w before left right ≡ after_step (step kind (w / app_windows) before.state (bag_of (before.left ++ left)) (bag_of (before.right ++ right)))
   unfolding gather
-  gather-steps h = ap (λ n. cond (n == 0) (after_step (step kind (w / gathers) before.state (bag_of (before.left ++ left)) (bag_of (before.right ++ right)))) (record { progress = carry before left right; rows = [] })) h
+  gather-steps h = ap (λ n. cond (n == 0) (after_step (step kind (w / app_windows) before.state (bag_of (before.left ++ left)) (bag_of (before.right ++ right)))) (record { progress = carry before left right; rows = [] })) h
 
-  pub gather-carries : w % gathers ≢ 0 → gather kind gathers w before left right ≡ record { progress = carry before left right; rows = [] }
+  pub gather-carries : w % app_windows ≢ 0 → gather kind app_windows w before left right ≡ record { progress = carry before left right; rows = [] }
   unfolding gather
-  gather-carries h = choose (w % gathers == 0) (w % gathers) _ _ refl h
+  gather-carries h = choose (w % app_windows == 0) (w % app_windows) _ _ refl h
 
 -- a bag with nothing before it is itself
 pub bag_of-bag : (before tuples : List Tuple) → before ≡ [] → IsBag tuples → bag_of (before ++ tuples) ≡ tuples

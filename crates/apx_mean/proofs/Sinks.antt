@@ -44,7 +44,7 @@ valid-graph nodes few g =
     let s = g.sink in
     record {
       few = few;
-      nodes_valid = λ k h. let n = g.each k h in record { role = valid-role _ n.role; some_partitions = n.partitions.0; few_partitions = n.partitions.1; some_windows = n.gathers.0; few_windows = n.gathers.1 };
+      nodes_valid = λ k h. let n = g.each k h in record { role = valid-role _ n.role; some_partitions = n.partitions.0; few_partitions = n.partitions.1; some_windows = n.app_windows.0; few_windows = n.app_windows.1 };
       sink = let up = sink-up-to nodes s.0 _ s.1 (ap is_sink s.2) in let within : s.0 < length nodes = s.1 in omega arith;
     }
 

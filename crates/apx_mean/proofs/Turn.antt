@@ -5,42 +5,42 @@ use Rattle.apx_tuple.specs.declared.progress.Progress.{Progress}
 use Rattle.apx_tuple.specs.declared.tuple.Tuple.{Tuple}
 use Rattle.apx_pass.specs.Graph.{Node, node_at}
 use Rattle.apx_pass.specs.Groups.{Input}
-use Rattle.apx_pass.specs.Large.{IsLargePassed, IsLargeJob, right_came}
+use Rattle.apx_pass.specs.Large.{IsLargePassed, IsLargeDataflow, right_came}
 use Rattle.apx_pass.specs.Order.{IsOrder}
-use Rattle.apx_pass.specs.Pass.{Job, Passed, at_start, pass_node, pass_window, progress_after, rows_at, input_at}
+use Rattle.apx_pass.specs.Pass.{Dataflow, Passed, at_start, pass_node, pass_window, progress_after, rows_at, input_at}
 use Rattle.apx_pass.proofs.Passing.{pass_window-node}
 use Rattle.apx_mean.specs.Views.{IsPassed}
 
-module _ (job : Job) (order : List ℕ) (o : IsOrder job.nodes order) (passed : ℕ) where
+module _ (flow : Dataflow) (order : List ℕ) (o : IsOrder flow.nodes order) (passed : ℕ) where
   -- what each operator gives and carries, by the rows of its sources
-  pub turn : (k : ℕ) → k < length order → let op = slice_index order k in let node = node_at job.nodes op in
-      pass_window job (suc passed) (progress_after job passed) op ≡ pass_node node (input_at job op) (suc passed) (progress_after job passed op) (rows_at job (suc passed) node.left) (rows_at job (suc passed) node.right)
+  pub turn : (k : ℕ) → k < length order → let op = slice_index order k in let node = node_at flow.nodes op in
+      pass_window flow (suc passed) (progress_after flow passed) op ≡ pass_node node (input_at flow op) (suc passed) (progress_after flow passed op) (rows_at flow (suc passed) node.left) (rows_at flow (suc passed) node.right)
   unfolding rows_at
-  turn k h = pass_window-node job order o (suc passed) (progress_after job passed) k h
+  turn k h = pass_window-node flow order o (suc passed) (progress_after flow passed) k h
 
-  after : (op : ℕ) → (pass_window job (suc passed) (progress_after job passed) op).progress ≡ progress_after job (suc passed) op
+  after : (op : ℕ) → (pass_window flow (suc passed) (progress_after flow passed) op).progress ≡ progress_after flow (suc passed) op
   unfolding progress_after
   after op = refl
 
-  given : (op : ℕ) → (pass_window job (suc passed) (progress_after job passed) op).rows ≡ rows_at job (suc passed) op
+  given : (op : ℕ) → (pass_window flow (suc passed) (progress_after flow passed) op).rows ≡ rows_at flow (suc passed) op
   unfolding rows_at
   given op = refl
 
-  module _ (k : ℕ) (h : k < length order) (node : Node) (n : node ≡ node_at job.nodes (slice_index order k)) (input : Option Input) (i : input ≡ input_at job (slice_index order k))
-      (before : Progress) (b : before ≡ progress_after job passed (slice_index order k)) (w : ℕ) (e : w ≡ suc passed) where
-    same : pass_node node input w before (rows_at job (suc passed) node.left) (rows_at job (suc passed) node.right) ≡ pass_window job (suc passed) (progress_after job passed) (slice_index order k)
-    same = (λ j. pass_node (n j) (i j) (e j) (b j) (rows_at job (suc passed) (n j).left) (rows_at job (suc passed) (n j).right)) ∙ sym (turn k h)
+  module _ (k : ℕ) (h : k < length order) (node : Node) (n : node ≡ node_at flow.nodes (slice_index order k)) (input : Option Input) (i : input ≡ input_at flow (slice_index order k))
+      (before : Progress) (b : before ≡ progress_after flow passed (slice_index order k)) (w : ℕ) (e : w ≡ suc passed) where
+    same : pass_node node input w before (rows_at flow (suc passed) node.left) (rows_at flow (suc passed) node.right) ≡ pass_window flow (suc passed) (progress_after flow passed) (slice_index order k)
+    same = (λ j. pass_node (n j) (i j) (e j) (b j) (rows_at flow (suc passed) (n j).left) (rows_at flow (suc passed) (n j).right)) ∙ sym (turn k h)
 
     -- what the code makes of the operator in its turn
-    pub made : (progress : Progress) (rows : List Tuple) → IsPassed progress rows (pass_node node input w before (rows_at job (suc passed) node.left) (rows_at job (suc passed) node.right)) →
-        (progress ≡ progress_after job (suc passed) (slice_index order k)) × (rows ≡ rows_at job (suc passed) (slice_index order k))
+    pub made : (progress : Progress) (rows : List Tuple) → IsPassed progress rows (pass_node node input w before (rows_at flow (suc passed) node.left) (rows_at flow (suc passed) node.right)) →
+        (progress ≡ progress_after flow (suc passed) (slice_index order k)) × (rows ≡ rows_at flow (suc passed) (slice_index order k))
     made progress rows p = (p.0 ∙ ap (λ (x : Passed). x.progress) same ∙ after (slice_index order k), p.1 ∙ ap (λ (x : Passed). x.rows) same ∙ given (slice_index order k))
 
     -- what is too large for the code is too large in the pass
-    pub made-large : IsLargePassed before (rows_at job (suc passed) node.left) (right_came node.role (rows_at job (suc passed) node.right)) (pass_node node input w before (rows_at job (suc passed) node.left) (rows_at job (suc passed) node.right)) →
-        IsLargeJob job
+    pub made-large : IsLargePassed before (rows_at flow (suc passed) node.left) (right_came node.role (rows_at flow (suc passed) node.right)) (pass_node node input w before (rows_at flow (suc passed) node.left) (rows_at flow (suc passed) node.right)) →
+        IsLargeDataflow flow
     made-large large =
-        let P : Node × Progress × Passed → Type 0 = λ x. IsLargePassed x.1 (rows_at job (suc passed) x.0.left) (right_came x.0.role (rows_at job (suc passed) x.0.right)) x.2 in
+        let P : Node × Progress × Passed → Type 0 = λ x. IsLargePassed x.1 (rows_at flow (suc passed) x.0.left) (right_came x.0.role (rows_at flow (suc passed) x.0.right)) x.2 in
         record { passed = passed; operator = slice_index order k; is = subst P (λ j. (n j, b j, same j)) large }
 
 -- a list that has gone one place further
@@ -67,6 +67,6 @@ pub within : (progress : List Progress) (order : List ℕ) (f : ℕ → Progress
 within progress order f k p h = let long : length progress ≡ length order = ap length p ∙ length-map order f in omega arith
 
 -- at the start each operator carries nothing
-pub starts-at : (job : Job) (order : List ℕ) → map (λ _. at_start) order ≡ map (progress_after job 0) order
+pub starts-at : (flow : Dataflow) (order : List ℕ) → map (λ _. at_start) order ≡ map (progress_after flow 0) order
 unfolding progress_after
-starts-at job order = refl
+starts-at flow order = refl

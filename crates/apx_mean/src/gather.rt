@@ -85,29 +85,43 @@ fn carried(alloc: Global, before: Progress, left: &Bag, right: &Bag) -> Result<P
     })
 }
 
-/// What an operator that steps once for each `gathers` windows makes of the window `window`, counted from 1.
+/// What an operator that steps once for each `app_windows` windows makes of the window `window`, counted from 1.
 ///
 /// `Large` comes only where what came since its last step, or what it makes of it, is too large.
 pub(crate) fn gather(
     alloc: Global,
     kind: &Kind,
-    gathers: u32,
+    app_windows: u32,
     window: u32,
     before: Progress,
     left: &Bag,
     right: &Bag,
 ) -> Result<Passed, Short>
-    requires { 0 < gathers }
-    ensures ok { IfOk result (λ passed. (passed.progress ≡ (gathered kind.now gathers window before left.now right.now).progress) × (passed.rows ≡ (gathered kind.now gathers window before left.now right.now).rows)) }
-    ensures large { result ≡ Err Short.Large → IsLargePassed before left.now right.now (gathered kind.now gathers window before left.now right.now) }
+    requires { 0 < app_windows }
+    ensures ok { IfOk result (λ passed. (passed.progress ≡ (gathered kind.now app_windows window before left.now right.now).progress) × (passed.rows ≡ (gathered kind.now app_windows window before left.now right.now).rows)) }
+    ensures large { result ≡ Err Short.Large → IsLargePassed before left.now right.now (gathered kind.now app_windows window before left.now right.now) }
 {
-    if window % gathers != 0 {
+    if window % app_windows != 0 {
         return carried(alloc, before, left, right);
     }
     if begins_anew(&before, left, right) {
-        return stepped(alloc, kind, window / gathers, &before.state, left, right);
+        return stepped(
+            alloc,
+            kind,
+            window / app_windows,
+            &before.state,
+            left,
+            right,
+        );
     }
     let left = joined(alloc, before.left, left)?;
     let right = joined(alloc, before.right, right)?;
-    stepped(alloc, kind, window / gathers, &before.state, &left, &right)
+    stepped(
+        alloc,
+        kind,
+        window / app_windows,
+        &before.state,
+        &left,
+        &right,
+    )
 }

@@ -68,24 +68,24 @@ fn pass_inner(
     window: u32,
     before: Progress,
 ) -> Result<Passed, Short>
-    requires gathers { 0 < node.now.gathers }
+    requires app_windows { 0 < node.now.app_windows }
     requires long { length rows.now ≤ length order.now }
     requires left { IsBefore order.now (length rows.now) node.now.left }
     requires right { MatchBool (has_right kind.now) (IsBefore order.now (length rows.now) node.now.right) ⊤ }
     ensures ok { (gives : ℕ → List Tuple) → rows.now ≡ map gives (take (length rows.now) order.now) →
-        IfOk result (λ passed. IsPassed passed.progress passed.rows (gathered kind.now node.now.gathers window before (gives node.now.left) (cond (has_right kind.now) (gives node.now.right) []))) }
+        IfOk result (λ passed. IsPassed passed.progress passed.rows (gathered kind.now node.now.app_windows window before (gives node.now.left) (cond (has_right kind.now) (gives node.now.right) []))) }
     ensures large { (gives : ℕ → List Tuple) → rows.now ≡ map gives (take (length rows.now) order.now) → result ≡ Err Short.Large →
-        IsLargePassed before (gives node.now.left) (cond (has_right kind.now) (gives node.now.right) []) (gathered kind.now node.now.gathers window before (gives node.now.left) (cond (has_right kind.now) (gives node.now.right) [])) }
+        IsLargePassed before (gives node.now.left) (cond (has_right kind.now) (gives node.now.right) []) (gathered kind.now node.now.app_windows window before (gives node.now.left) (cond (has_right kind.now) (gives node.now.right) [])) }
 {
     let left = rows_of(order, rows, node.left);
     if kind.has_right() {
         let right = rows_of(order, rows, node.right);
-        return gather(alloc, kind, node.group, window, before, left, right);
+        return gather(alloc, kind, node.app_windows, window, before, left, right);
     }
     gather(
         alloc,
         kind,
-        node.group,
+        node.app_windows,
         window,
         before,
         left,
@@ -108,7 +108,7 @@ pub(crate) fn pass_operator(
     before: Progress,
 ) -> Result<Passed, Short>
     requires window { 1 ≤ window }
-    requires gathers { 0 < node.now.gathers }
+    requires app_windows { 0 < node.now.app_windows }
     requires long { length rows.now ≤ length order.now }
     requires behind { EachSource (IsBefore order.now (length rows.now)) node.now }
     ensures ok { (gives : ℕ → List Tuple) → rows.now ≡ map gives (take (length rows.now) order.now) →

@@ -4,8 +4,8 @@ ghost use Rattle.std.specs.Option.{option_copied};
 ghost use Rattle.apx_pass.specs.Order.{IsBefore, IsOrder};
 ghost use Rattle.apx_pass.specs.Valid.{IsValid};
 ghost use Rattle.apx_pass.specs.Pass.{at_start, progress_after, rows_at, is_sink, sink_of};
-ghost use Rattle.apx_mean.specs.Passing.{job_of};
-ghost use Rattle.apx_pass.specs.Large.{IsLargeJob};
+ghost use Rattle.apx_mean.specs.Passing.{dataflow_of};
+ghost use Rattle.apx_pass.specs.Large.{IsLargeDataflow};
 
 use crate::operator::pass_operator;
 use apx_dag::{Dag, Node, Role};
@@ -34,16 +34,16 @@ impl<'a> Model for OnePass<'a> {
 
     ghost Value = { Passing };
 
-    ghost view = { λ p. record { job = record { nodes = p.dag.now; inputs = p.inputs.now }; passed = p.passed } };
+    ghost view = { λ p. record { flow = record { nodes = p.dag.now; inputs = p.inputs.now }; passed = p.passed } };
 
-    ghost invariant = { λ p. IsPassing (record { job = record { nodes = p.dag.now; inputs = p.inputs.now }; passed = p.passed }) p.order.now p.sink p.progress.items };
+    ghost invariant = { λ p. IsPassing (record { flow = record { nodes = p.dag.now; inputs = p.inputs.now }; passed = p.passed }) p.order.now p.sink p.progress.items };
 }
 
 impl<'a> OnePass<'a> {
     ghost use Rattle.std.specs.Prelude.{◌≡◌, ◌<◌, ◌+◌, suc, IfOk};
-    ghost use Rattle.apx_mean.specs.Passing.{job_of};
-    ghost use Rattle.apx_pass.specs.Pass.{Job, rows_at, sink_of};
-    ghost use Rattle.apx_pass.specs.Large.{IsLargeJob};
+    ghost use Rattle.apx_mean.specs.Passing.{dataflow_of};
+    ghost use Rattle.apx_pass.specs.Pass.{Dataflow, rows_at, sink_of};
+    ghost use Rattle.apx_pass.specs.Large.{IsLargeDataflow};
 
     /// A pass that has gone through no window yet.
     pub fn new(
@@ -51,7 +51,7 @@ impl<'a> OnePass<'a> {
         dag: &'a Dag,
         inputs: &'a [Option<Windows>],
     ) -> Result<OnePass<'a>, AllocError>
-        ensures { IfOk result (λ pass. pass ≡ record { job = job_of dag.now inputs.now; passed = 0 }) }
+        ensures { IfOk result (λ pass. pass ≡ record { flow = dataflow_of dag.now inputs.now; passed = 0 }) }
     {
         let order = dag.order();
         let sink = place_of(order, sink_number(dag));
@@ -71,8 +71,8 @@ impl<'a> OnePass<'a> {
     /// `Large` comes only where a bag or a state that the pass names is too large.
     pub fn next(self, alloc: Global) -> Result<(OnePass<'a>, Bag), Short>
         requires { self.passed < 20000 }
-        ensures ok { IfOk result (λ r. (r.0 ≡ record { job = self.entry.job; passed = self.entry.passed + 1 }) × (r.1 ≡ rows_at self.entry.job (suc self.entry.passed) (sink_of self.entry.job.nodes))) }
-        ensures large { result ≡ Err Short.Large → IsLargeJob self.entry.job }
+        ensures ok { IfOk result (λ r. (r.0 ≡ record { flow = self.entry.flow; passed = self.entry.passed + 1 }) × (r.1 ≡ rows_at self.entry.flow (suc self.entry.passed) (sink_of self.entry.flow.nodes))) }
+        ensures large { result ≡ Err Short.Large → IsLargeDataflow self.entry.flow }
     {
         let OnePass {
             dag,
@@ -143,10 +143,10 @@ fn pass_all(
     requires passed { passed < 20000 }
     requires order { IsOrder dag.now order.now }
     requires valid { IsValid dag.now }
-    requires carried { progress.items ≡ map (progress_after (job_of dag.now inputs.now) passed) order.now }
-    ensures progress { IfOk result (λ r. r.0.items ≡ map (progress_after (job_of dag.now inputs.now) (suc passed)) order.now) }
-    ensures rows { IfOk result (λ r. r.1.items ≡ map (rows_at (job_of dag.now inputs.now) (suc passed)) order.now) }
-    ensures large { result ≡ Err Short.Large → IsLargeJob (job_of dag.now inputs.now) }
+    requires carried { progress.items ≡ map (progress_after (dataflow_of dag.now inputs.now) passed) order.now }
+    ensures progress { IfOk result (λ r. r.0.items ≡ map (progress_after (dataflow_of dag.now inputs.now) (suc passed)) order.now) }
+    ensures rows { IfOk result (λ r. r.1.items ≡ map (rows_at (dataflow_of dag.now inputs.now) (suc passed)) order.now) }
+    ensures large { result ≡ Err Short.Large → IsLargeDataflow (dataflow_of dag.now inputs.now) }
 {
     let mut carried = Vec::new(alloc);
     let mut rows = Vec::new(alloc);

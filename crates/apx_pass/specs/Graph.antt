@@ -10,15 +10,15 @@ pub data Role : Type 0 where
   Sink : Role
 
 -- An operator. `left` and `right` are the numbers of the operators that its ports read, its own number
--- where it has no such port. It steps once for each `gathers` windows, over all that came in them.
+-- where it has no such port. It steps once for each `app_windows` windows, over all that came in them.
 pub record Node : Type 0 where
   pub name : List ℕ
   pub role : Role
   pub partitions : ℕ
   pub left : ℕ
   pub right : ℕ
-  pub gathers : ℕ
+  pub app_windows : ℕ
 
 -- the operator with a number, from 0; past the last one, a sink without a name
 abbrev pub node_at : List Node → ℕ → Node
-node_at nodes number = slice_index_or nodes number (record { name = []; role = Sink; partitions = 1; left = number; right = number; gathers = 1 })
+node_at nodes number = slice_index_or nodes number (record { name = []; role = Sink; partitions = 1; left = number; right = number; app_windows = 1 })

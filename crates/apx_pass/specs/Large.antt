@@ -7,7 +7,7 @@ use Rattle.apx_tuple.specs.Size.{IsLarge}
 use Rattle.apx_tuple.specs.State.{pair_key}
 use Rattle.apx_tuple.specs.Tuple.{tuple_key, bag_of}
 use Rattle.apx_pass.specs.Graph.{Role, Input, Inner, Sink, node_at}
-use Rattle.apx_pass.specs.Pass.{Passed, Job, pass_window, progress_after, rows_at}
+use Rattle.apx_pass.specs.Pass.{Passed, Dataflow, pass_window, progress_after, rows_at}
 
 -- what came on one of an operator's ports since its last step is too large, or the state or the rows that it makes of it
 pub record IsLargePassed (progress : Progress) (left right : List Tuple) (passed : Passed) : Type 0 where
@@ -20,7 +20,7 @@ right_came (Input kind file per_window) rows = []
 right_came Sink rows = []
 
 -- what the one pass names is too large at some operator, in the window after some
-pub record IsLargeJob (job : Job) : Type 0 where
+pub record IsLargeDataflow (flow : Dataflow) : Type 0 where
   pub passed : ℕ
   pub operator : ℕ
-  pub is : IsLargePassed (progress_after job passed operator) (rows_at job (suc passed) (node_at job.nodes operator).left) (right_came (node_at job.nodes operator).role (rows_at job (suc passed) (node_at job.nodes operator).right)) (pass_window job (suc passed) (progress_after job passed) operator)
+  pub is : IsLargePassed (progress_after flow passed operator) (rows_at flow (suc passed) (node_at flow.nodes operator).left) (right_came (node_at flow.nodes operator).role (rows_at flow (suc passed) (node_at flow.nodes operator).right)) (pass_window flow (suc passed) (progress_after flow passed) operator)

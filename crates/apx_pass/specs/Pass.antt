@@ -2,10 +2,10 @@
 --
 -- Partitions, blocks, checkpoints, threads and failures don't occur here. Windows count from 1, and
 -- operators go by their number in the file, from 0.
---     progress_after job w o    what operator o carries from window w to the next
---     rows_at job w o           what operator o gives in window w
---     windows job               how many windows there are
---     mean job                  the sink's rows of each window
+--     progress_after dataflow w o    what operator o carries from window w to the next
+--     rows_at dataflow w o           what operator o gives in window w
+--     windows dataflow               how many windows there are
+--     mean dataflow                  the sink's rows of each window
 use Rattle.std.specs.Prelude.{ℕ, zero, suc, ◌+◌, ◌/◌, ◌%◌, ◌==◌, max, Bool, true, false, cond, List, [], ◌∷◌, ◌++◌, length, Option, Some, None, slice_index_or}
 use Rattle.apx_tuple.specs.declared.kind.Kind.{Kind}
 use Rattle.apx_tuple.specs.declared.progress.Progress.{Progress}
@@ -18,7 +18,7 @@ use Rattle.apx_pass.specs.Graph.{Role, Node, node_at}
 use Rattle.apx_pass.specs.Groups.{Input, groups, window_bag}
 
 -- an application with what its inputs read: one place for each operator, empty where it is no input
-pub record Job : Type 0 where
+pub record Dataflow : Type 0 where
   pub nodes : List Node
   pub inputs : List (Option Input)
 
@@ -31,20 +31,20 @@ pub record Passed : Type 0 where
   pub progress : Progress
   pub rows : List Tuple
 
--- An inner operator gathers what comes. At each window that is a multiple of `gathers` it steps over
+-- An inner operator gathers what comes. At each window that is a multiple of `app_windows` it steps over
 -- all that came since the last one; at the others it gives nothing.
 unfoldable pub gather : Kind → ℕ → ℕ → Progress → List Tuple → List Tuple → Passed
-gather kind gathers w progress left right =
+gather kind app_windows w progress left right =
     let l = bag_of (progress.left ++ left) in
     let r = bag_of (progress.right ++ right) in
-    let stepped = step kind (w / gathers) progress.state l r in
-    cond (w % gathers == 0)
+    let stepped = step kind (w / app_windows) progress.state l r in
+    cond (w % app_windows == 0)
     (record { progress = record { state = stepped.state; left = []; right = [] }; rows = stepped.rows })
     (record { progress = record { state = progress.state; left = l; right = r }; rows = [] })
 
 -- the input of an operator, if it is one
-abbrev pub input_at : Job → ℕ → Option Input
-input_at job o = slice_index_or job.inputs o None
+abbrev pub input_at : Dataflow → ℕ → Option Input
+input_at flow o = slice_index_or flow.inputs o None
 
 abbrev pub rows_of_input : Option Input → ℕ → List Tuple
 rows_of_input None w = []
@@ -52,31 +52,31 @@ rows_of_input (Some input) w = window_bag input w
 
 -- an input gives its window, and the sink what reaches it; they carry nothing
 unfoldable pub pass_role : Role → ℕ → Option Input → ℕ → Progress → List Tuple → List Tuple → Passed
-pass_role (graph.Input kind file per_window) gathers input w progress left right = record { progress = at_start; rows = rows_of_input input w }
-pass_role (graph.Inner kind) gathers input w progress left right = gather kind gathers w progress left (cond (has_right kind) right [])
-pass_role graph.Sink gathers input w progress left right = record { progress = at_start; rows = left }
+pass_role (graph.Input kind file per_window) app_windows input w progress left right = record { progress = at_start; rows = rows_of_input input w }
+pass_role (graph.Inner kind) app_windows input w progress left right = gather kind app_windows w progress left (cond (has_right kind) right [])
+pass_role graph.Sink app_windows input w progress left right = record { progress = at_start; rows = left }
 
 abbrev pub pass_node : Node → Option Input → ℕ → Progress → List Tuple → List Tuple → Passed
-pass_node node = pass_role node.role node.gathers
+pass_node node = pass_role node.role node.app_windows
 
 -- What operator o makes of window w, where `before` is what each operator carries into it, seen
 -- through so many streams. No stream leads back, so as many as there are operators reach the inputs.
-unfoldable pub pass_within : ℕ → Job → ℕ → (ℕ → Progress) → ℕ → Passed
-pass_within zero job w before o = record { progress = at_start; rows = [] }
-pass_within (suc streams) job w before o =
-    let node = node_at job.nodes o in
-    pass_node node (input_at job o) w (before o) (pass_within streams job w before node.left).rows (pass_within streams job w before node.right).rows
+unfoldable pub pass_within : ℕ → Dataflow → ℕ → (ℕ → Progress) → ℕ → Passed
+pass_within zero flow w before o = record { progress = at_start; rows = [] }
+pass_within (suc streams) flow w before o =
+    let node = node_at flow.nodes o in
+    pass_node node (input_at flow o) w (before o) (pass_within streams flow w before node.left).rows (pass_within streams flow w before node.right).rows
 
-abbrev pub pass_window : Job → ℕ → (ℕ → Progress) → ℕ → Passed
-pass_window job = pass_within (length job.nodes) job
+abbrev pub pass_window : Dataflow → ℕ → (ℕ → Progress) → ℕ → Passed
+pass_window flow = pass_within (length flow.nodes) flow
 
-unfoldable pub progress_after : Job → ℕ → ℕ → Progress
-progress_after job zero o = at_start
-progress_after job (suc w) o = (pass_window job (suc w) (progress_after job w) o).progress
+unfoldable pub progress_after : Dataflow → ℕ → ℕ → Progress
+progress_after flow zero o = at_start
+progress_after flow (suc w) o = (pass_window flow (suc w) (progress_after flow w) o).progress
 
-unfoldable pub rows_at : Job → ℕ → ℕ → List Tuple
-rows_at job zero o = []
-rows_at job (suc w) o = (pass_window job (suc w) (progress_after job w) o).rows
+unfoldable pub rows_at : Dataflow → ℕ → ℕ → List Tuple
+rows_at flow zero o = []
+rows_at flow (suc w) o = (pass_window flow (suc w) (progress_after flow w) o).rows
 
 -- the greatest number of windows of any input
 unfoldable pub windows_of : List (Option Input) → ℕ
@@ -84,8 +84,8 @@ windows_of [] = 0
 windows_of (None ∷ inputs) = windows_of inputs
 windows_of (Some input ∷ inputs) = max (groups input) (windows_of inputs)
 
-abbrev pub windows : Job → ℕ
-windows job = windows_of job.inputs
+abbrev pub windows : Dataflow → ℕ
+windows flow = windows_of flow.inputs
 
 abbrev pub is_sink : Role → Bool
 is_sink graph.Sink = true
@@ -97,10 +97,10 @@ sink_of [] = 0
 sink_of (node ∷ nodes) = cond (is_sink node.role) 0 (1 + sink_of nodes)
 
 -- the sink's rows of the windows 1 to w
-unfoldable pub mean_up_to : Job → ℕ → List (List Tuple)
-mean_up_to job zero = []
-mean_up_to job (suc w) = mean_up_to job w ++ rows_at job (suc w) (sink_of job.nodes) ∷ []
+unfoldable pub mean_up_to : Dataflow → ℕ → List (List Tuple)
+mean_up_to flow zero = []
+mean_up_to flow (suc w) = mean_up_to flow w ++ rows_at flow (suc w) (sink_of flow.nodes) ∷ []
 
 -- the sink's rows of each window
-abbrev pub mean : Job → List (List Tuple)
-mean job = mean_up_to job (windows job)
+abbrev pub mean : Dataflow → List (List Tuple)
+mean flow = mean_up_to flow (windows flow)

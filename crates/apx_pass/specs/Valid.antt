@@ -14,8 +14,8 @@ pub record IsValidNode (node : Node) : Type 0 where
   pub role : IsValidRole node.role
   pub some_partitions : 1 ≤ node.partitions
   pub few_partitions : node.partitions ≤ 8
-  pub some_windows : 1 ≤ node.gathers
-  pub few_windows : node.gathers ≤ 20000
+  pub some_windows : 1 ≤ node.app_windows
+  pub few_windows : node.app_windows ≤ 20000
 
 -- there are up to 16 operators, each of them valid, and a sink among them
 pub record IsValid (nodes : List Node) : Type 0 where

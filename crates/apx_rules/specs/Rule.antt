@@ -9,10 +9,10 @@ use Rattle.apx_tuple.specs.declared.kind.Kind.{Kind}
 use Rattle.apx_tuple.specs.declared.kind.Kind.TheVariants.{Keep, Scale, Words, Prefix, Count, Sum, Peak, First, Tumble, Match, Enrich, Top}
 use Rattle.apx_tuple.specs.declared.tuple.Tuple.{Tuple}
 
--- the entry that the key has from then on, and the tuples that are told of it
+-- the entry that the key has from then on, and the tuples that are emitted of it
 pub record Outcome : Type 0 where
   pub entry : Option ℤ
-  pub told : List Tuple
+  pub emitted : List Tuple
 
 -- a tuple of the key for each value
 abbrev pub tuples_of : List ℕ → List ℤ → List Tuple
@@ -46,24 +46,24 @@ words_of key = filter (λ word. not (length word == 0)) (cut_at_blanks key)
 
 -- Passes on the tuples whose value is from `min` to `max`.
 abbrev pub keep_rule : ℤ → ℤ → List ℕ → List ℤ → Outcome
-keep_rule min max key lefts = record { entry = None; told = tuples_of key (filter (λ value. int_le min value && int_le value max) lefts) }
+keep_rule min max key lefts = record { entry = None; emitted = tuples_of key (filter (λ value. int_le min value && int_le value max) lefts) }
 
 -- Multiplies each value by the factor.
 abbrev pub scale_rule : ℤ → List ℕ → List ℤ → Outcome
-scale_rule factor key lefts = record { entry = None; told = tuples_of key (map (λ value. int_wrapping_mul w64 value factor) lefts) }
+scale_rule factor key lefts = record { entry = None; emitted = tuples_of key (map (λ value. int_wrapping_mul w64 value factor) lefts) }
 
--- Tells each word of the key, with each of its values.
+-- Emits each word of the key, with each of its values.
 abbrev pub words_rule : List ℕ → List ℤ → Outcome
-words_rule key lefts = record { entry = None; told = flat_map (λ value. map (λ word. record { key = word; value = value }) (words_of key)) lefts }
+words_rule key lefts = record { entry = None; emitted = flat_map (λ value. map (λ word. record { key = word; value = value }) (words_of key)) lefts }
 
 -- Cuts the key to its first bytes.
 abbrev pub prefix_rule : ℕ → List ℕ → List ℤ → Outcome
-prefix_rule len key lefts = record { entry = None; told = tuples_of (take len key) lefts }
+prefix_rule len key lefts = record { entry = None; emitted = tuples_of (take len key) lefts }
 
--- Keeps a number for a key that came and tells it; the entry of one that didn't come stays.
+-- Keeps a number for a key that came and emits it; the entry of one that didn't come stays.
 abbrev pub running : List ℕ → Option ℤ → Bool → ℤ → Outcome
-running key old true value = record { entry = Some value; told = record { key = key; value = value } ∷ [] }
-running key old false value = record { entry = old; told = [] }
+running key old true value = record { entry = Some value; emitted = record { key = key; value = value } ∷ [] }
+running key old false value = record { entry = old; emitted = [] }
 
 -- Counts the tuples.
 abbrev pub count_rule : List ℕ → Option ℤ → List ℤ → Outcome
@@ -78,29 +78,29 @@ abbrev pub rose : Option ℤ → ℤ → Bool
 rose None value = true
 rose (Some old) value = int_lt old value
 
--- Keeps the greatest value, and tells it where it is the first or rose.
+-- Keeps the greatest value, and emits it where it is the first or rose.
 abbrev pub peak_rule : List ℕ → Option ℤ → List ℤ → Outcome
-peak_rule key old [] = record { entry = old; told = [] }
+peak_rule key old [] = record { entry = old; emitted = [] }
 peak_rule key old (value ∷ values) =
     let peak = unwrap_or (greatest old (value ∷ values)) value in
-    record { entry = Some peak; told = cond (rose old peak) (record { key = key; value = peak } ∷ []) [] }
+    record { entry = Some peak; emitted = cond (rose old peak) (record { key = key; value = peak } ∷ []) [] }
 
--- Tells the least value of a key that came for the first time.
+-- Emits the least value of a key that came for the first time.
 abbrev pub first_rule : List ℕ → Option ℤ → List ℤ → Outcome
-first_rule key old [] = record { entry = old; told = [] }
-first_rule key old (value ∷ values) = record { entry = Some (pos 1); told = cond (is_some old) [] (record { key = key; value = value } ∷ []) }
+first_rule key old [] = record { entry = old; emitted = [] }
+first_rule key old (value ∷ values) = record { entry = Some (pos 1); emitted = cond (is_some old) [] (record { key = key; value = value } ∷ []) }
 
--- Adds up the values, and at each window that is a multiple of `every` tells the sum and forgets it.
+-- Adds up the values, and at each window that is a multiple of `every` emits the sum and forgets it.
 abbrev pub tumble_rule : ℕ → ℕ → List ℕ → Option ℤ → List ℤ → Outcome
 tumble_rule every window key old lefts =
     let sum = cond (came lefts) (Some (total (unwrap_or old (pos 0)) lefts)) old in
     cond (window % every == 0)
-    (record { entry = None; told = tuples_of key (cond (is_some sum) (unwrap_or sum (pos 0) ∷ []) []) })
-    (record { entry = sum; told = [] })
+    (record { entry = None; emitted = tuples_of key (cond (is_some sum) (unwrap_or sum (pos 0) ∷ []) []) })
+    (record { entry = sum; emitted = [] })
 
 -- Passes on the left tuples of a key that came on the right.
 abbrev pub match_rule : List ℕ → List ℤ → List ℤ → Outcome
-match_rule key lefts rights = record { entry = None; told = cond (came rights) (tuples_of key lefts) [] }
+match_rule key lefts rights = record { entry = None; emitted = cond (came rights) (tuples_of key lefts) [] }
 
 -- the values, each with the entry added, where there is one
 abbrev pub with_entry_added : Option ℤ → List ℤ → List ℤ
@@ -111,7 +111,7 @@ with_entry_added (Some entry) values = map (λ value. int_wrapping_add w64 value
 abbrev pub enrich_rule : List ℕ → Option ℤ → List ℤ → List ℤ → Outcome
 enrich_rule key old lefts rights =
     let entry = cond (came rights) (greatest None rights) old in
-    record { entry = entry; told = tuples_of key (with_entry_added entry lefts) }
+    record { entry = entry; emitted = tuples_of key (with_entry_added entry lefts) }
 
 -- what each kind makes of a key; `top` has a rule for the whole bag alone
 unfoldable pub rule : Kind → ℕ → List ℕ → Option ℤ → List ℤ → List ℤ → Outcome
@@ -126,4 +126,4 @@ rule First window key old lefts rights = first_rule key old lefts
 rule (Tumble every) window key old lefts rights = tumble_rule every window key old lefts
 rule Match window key old lefts rights = match_rule key lefts rights
 rule Enrich window key old lefts rights = enrich_rule key old lefts rights
-rule (Top k) window key old lefts rights = record { entry = None; told = [] }
+rule (Top k) window key old lefts rights = record { entry = None; emitted = [] }

@@ -44,7 +44,7 @@ keyed_step kind window state left right =
     let at = outcome_at kind window state left right in
     record {
       state = entries_at (λ key. (at key).entry) (step_keys state left right);
-      rows = bag_of (flat_map (λ key. (at key).told) (step_keys state left right));
+      rows = bag_of (flat_map (λ key. (at key).emitted) (step_keys state left right));
     }
 
 -- by value from the greatest down, and then by key

@@ -19,7 +19,7 @@ use Rattle.apx_tuple.proofs.Sizes.{size_by-bag_of}
 use Rattle.apx_rules.specs.Rule.{Outcome, rule, tuples_of}
 use Rattle.apx_rules.specs.Step.{step, keyed_step, step_keys, entries_at, values_of}
 use Rattle.apx_rules.proofs.Pairs.{same_key, value_at-with_entry, value_at-elsewhere, value_at-among, value_at-none, entries_at-ascends, same-pairs}
-use Rattle.apx_step.specs.Walk.{keys_came, put, put_all, walked, told_of, open_rule, open_outcome, keeps, start_of, closes, pair_tuple}
+use Rattle.apx_step.specs.Walk.{keys_came, put, put_all, walked, emitted_of, open_rule, open_outcome, keeps, start_of, closes, pair_tuple}
 use Rattle.apx_step.proofs.Groups.{keys, values_of-none}
 use Rattle.apx_step.proofs.Laws.{rule-open, rule-kept, rule-quiet, rule-blind, rule-empty, rule-stays}
 use Rattle.apx_step.proofs.Walks.{put-other, put-ascends}
@@ -85,12 +85,12 @@ module _ (kind : Kind) (start : List Pair) (left right : List Tuple) (q : List �
   entry-none : keeps kind ≡ true → (open_outcome kind start left right q).entry ≡ value_at start q
   entry-none h = ap (λ (o : Outcome). o.entry) (outcome-none ∙ rule-kept kind q (value_at start q) h)
 
-  told-none : (open_outcome kind start left right q).told ≡ []
-  told-none = ap (λ (o : Outcome). o.told) outcome-none ∙ by (keeps kind) refl
+  emitted-none : (open_outcome kind start left right q).emitted ≡ []
+  emitted-none = ap (λ (o : Outcome). o.emitted) outcome-none ∙ by (keeps kind) refl
     where
-      by : (b : Bool) → keeps kind ≡ b → (open_rule kind q (value_at start q) [] []).told ≡ []
-      by true h = ap (λ (o : Outcome). o.told) (rule-kept kind q (value_at start q) h)
-      by false h = ap (λ (o : Outcome). o.told) (rule-quiet kind q (value_at start q) h)
+      by : (b : Bool) → keeps kind ≡ b → (open_rule kind q (value_at start q) [] []).emitted ≡ []
+      by true h = ap (λ (o : Outcome). o.emitted) (rule-kept kind q (value_at start q) h)
+      by false h = ap (λ (o : Outcome). o.emitted) (rule-quiet kind q (value_at start q) h)
 
 -- ---- a whole walk
 
@@ -111,20 +111,20 @@ walked-empty kind left right h = by (keys_came left right)
     by [] = refl
     by (k ∷ ks) = ap (λ e. put_all (λ key. (open_outcome kind [] left right key).entry) ks (put e k [])) (rule-empty kind k None (values_of k left) (values_of k right) h) ∙ by ks
 
--- what is told is the same for all keys
-told_of-all : (kind : Kind) (state : List Pair) (left right : List Tuple) → told_of kind state left right ≡ flat_map (λ key. (open_outcome kind state left right key).told) (step_keys state left right)
-unfolding told_of
-told_of-all kind state left right =
-    sym (each_once-quiet key_order-exact (λ key. (open_outcome kind state left right key).told) (keys_of state ++ (keys left ++ keys right)) (keys left ++ keys right)
-    (λ q. omega (arith, times-append key_order q (keys_of state) (keys left ++ keys right))) (λ q n. told-none kind state left right q n))
+-- what is emitted is the same for all keys
+emitted_of-all : (kind : Kind) (state : List Pair) (left right : List Tuple) → emitted_of kind state left right ≡ flat_map (λ key. (open_outcome kind state left right key).emitted) (step_keys state left right)
+unfolding emitted_of
+emitted_of-all kind state left right =
+    sym (each_once-quiet key_order-exact (λ key. (open_outcome kind state left right key).emitted) (keys_of state ++ (keys left ++ keys right)) (keys left ++ keys right)
+    (λ q. omega (arith, times-append key_order q (keys_of state) (keys left ++ keys right))) (λ q n. emitted-none kind state left right q n))
 
-told_of-start : (kind : Kind) (state : List Pair) (left right : List Tuple) → told_of kind (start_of kind state) left right ≡ told_of kind state left right
-unfolding told_of
-told_of-start kind state left right = by (keeps kind) refl
+emitted_of-start : (kind : Kind) (state : List Pair) (left right : List Tuple) → emitted_of kind (start_of kind state) left right ≡ emitted_of kind state left right
+unfolding emitted_of
+emitted_of-start kind state left right = by (keeps kind) refl
   where
-    by : (b : Bool) → keeps kind ≡ b → flat_map (λ key. (open_outcome kind (cond b state []) left right key).told) (keys_came left right) ≡ flat_map (λ key. (open_outcome kind state left right key).told) (keys_came left right)
+    by : (b : Bool) → keeps kind ≡ b → flat_map (λ key. (open_outcome kind (cond b state []) left right key).emitted) (keys_came left right) ≡ flat_map (λ key. (open_outcome kind state left right key).emitted) (keys_came left right)
     by true h = refl
-    by false h = λ i. flat_map (λ key. (rule-blind kind key (value_at state key) (values_of key left) (values_of key right) h i).told) (keys_came left right)
+    by false h = λ i. flat_map (λ key. (rule-blind kind key (value_at state key) (values_of key left) (values_of key right) h i).emitted) (keys_came left right)
 
 -- ---- at a window that ends no sum
 
@@ -142,29 +142,29 @@ closing-state kind window state left right a open_window = by (keeps kind) refl
         ∙ entries_at-none (λ key. (open_outcome kind state left right key).entry) (step_keys state left right) (λ k. rule-empty kind k (value_at state k) (values_of k left) (values_of k right) h))
 
 pub closing-rows : (kind : Kind) (window : ℕ) (state : List Pair) (left right : List Tuple) → closes kind window ≡ false →
-    bag_of (told_of kind (start_of kind state) left right) ≡ (keyed_step kind window state left right).rows
+    bag_of (emitted_of kind (start_of kind state) left right) ≡ (keyed_step kind window state left right).rows
 closing-rows kind window state left right open_window =
-    ap bag_of (told_of-start kind state left right ∙ told_of-all kind state left right
-    ∙ (λ i. flat_map (λ key. (rule-open kind window key (value_at state key) (values_of key left) (values_of key right) open_window i).told) (step_keys state left right)))
+    ap bag_of (emitted_of-start kind state left right ∙ emitted_of-all kind state left right
+    ∙ (λ i. flat_map (λ key. (rule-open kind window key (value_at state key) (values_of key left) (values_of key right) open_window i).emitted) (step_keys state left right)))
 
 -- ---- at a window that ends the sums
 
-entries_at-told : (entry : List ℕ → Option ℤ) (ks : List (List ℕ)) → map pair_tuple (entries_at entry ks) ≡ flat_map (λ key. tuples_of key (cond (is_some (entry key)) (unwrap_or (entry key) (pos 0) ∷ []) [])) ks
+entries_at-emitted : (entry : List ℕ → Option ℤ) (ks : List (List ℕ)) → map pair_tuple (entries_at entry ks) ≡ flat_map (λ key. tuples_of key (cond (is_some (entry key)) (unwrap_or (entry key) (pos 0) ∷ []) [])) ks
 unfolding entries_at
-entries_at-told entry [] = refl
-entries_at-told entry (k ∷ ks) = by (entry k) refl (entries_at-told entry ks)
+entries_at-emitted entry [] = refl
+entries_at-emitted entry (k ∷ ks) = by (entry k) refl (entries_at-emitted entry ks)
   where
     by : (o : Option ℤ) → entry k ≡ o → map pair_tuple (entries_at entry ks) ≡ flat_map (λ key. tuples_of key (cond (is_some (entry key)) (unwrap_or (entry key) (pos 0) ∷ []) [])) ks →
         map pair_tuple (entries_at entry (k ∷ ks)) ≡ flat_map (λ key. tuples_of key (cond (is_some (entry key)) (unwrap_or (entry key) (pos 0) ∷ []) [])) (k ∷ ks)
     by None e rest = rw e rest
     by (Some v) e rest = rw e (ap (λ l. record { key = k; value = v } ∷ l) rest)
 
--- everything that is kept is told, and nothing is kept
+-- everything that is kept is emitted, and nothing is kept
 pub closing-end : (kind : Kind) (window : ℕ) (state : List Pair) (left right : List Tuple) → IsStrictlySortedBy key_order (keys_of state) → closes kind window ≡ true →
     (bag_of (map pair_tuple (walked kind (start_of kind state) left right)) ≡ (keyed_step kind window state left right).rows) × ((keyed_step kind window state left right).state ≡ [])
 unfolding open_rule rule
 closing-end (Tumble every) window state left right a h =
-    (ap bag_of (ap (map pair_tuple) (walked-kept (Tumble every) state left right a refl) ∙ entries_at-told (λ key. (open_outcome (Tumble every) state left right key).entry) (step_keys state left right)) ∙ rw h refl, rw h (entries_at-none (λ key. None) (step_keys state left right) (λ k. refl)))
+    (ap bag_of (ap (map pair_tuple) (walked-kept (Tumble every) state left right a refl) ∙ entries_at-emitted (λ key. (open_outcome (Tumble every) state left right key).entry) (step_keys state left right)) ∙ rw h refl, rw h (entries_at-none (λ key. None) (step_keys state left right) (λ k. refl)))
 closing-end kind window state left right a h = cc
 
 -- ---- sizes
@@ -189,28 +189,28 @@ step-keyed kind window state left right n = refl
 
 -- ---- the step as the code goes
 
-module _ (kind : Kind) (window : ℕ) (state start kept : List Pair) (left right told : List Tuple) (ascends : IsStrictlySortedBy key_order (keys_of state)) (begins : start ≡ start_of kind state) where
+module _ (kind : Kind) (window : ℕ) (state start kept : List Pair) (left right emitted : List Tuple) (ascends : IsStrictlySortedBy key_order (keys_of state)) (begins : start ≡ start_of kind state) where
   whole : walked kind start left right ≡ walked kind (start_of kind state) left right
   whole = ap (λ s. walked kind s left right) begins
 
-  pub open-ok : (rows : List Tuple) → closes kind window ≡ false → kept ≡ walked kind start left right → told ≡ told_of kind start left right → rows ≡ bag_of told →
+  pub open-ok : (rows : List Tuple) → closes kind window ≡ false → kept ≡ walked kind start left right → emitted ≡ emitted_of kind start left right → rows ≡ bag_of emitted →
       (kept ≡ (keyed_step kind window state left right).state) × (rows ≡ (keyed_step kind window state left right).rows)
-  open-ok rows h k t r = (k ∙ whole ∙ closing-state kind window state left right ascends h, r ∙ ap bag_of (t ∙ ap (λ s. told_of kind s left right) begins) ∙ closing-rows kind window state left right h)
+  open-ok rows h k t r = (k ∙ whole ∙ closing-state kind window state left right ascends h, r ∙ ap bag_of (t ∙ ap (λ s. emitted_of kind s left right) begins) ∙ closing-rows kind window state left right h)
 
-  pub open-large : closes kind window ≡ false → told ≡ told_of kind start left right → IsLarge tuple_key (bag_of told) → IsLarge tuple_key (keyed_step kind window state left right).rows
-  open-large h t large = subst (IsLarge tuple_key) (ap bag_of (t ∙ ap (λ s. told_of kind s left right) begins) ∙ closing-rows kind window state left right h) large
+  pub open-large : closes kind window ≡ false → emitted ≡ emitted_of kind start left right → IsLarge tuple_key (bag_of emitted) → IsLarge tuple_key (keyed_step kind window state left right).rows
+  open-large h t large = subst (IsLarge tuple_key) (ap bag_of (t ∙ ap (λ s. emitted_of kind s left right) begins) ∙ closing-rows kind window state left right h) large
 
-  end-rows : closes kind window ≡ true → kept ≡ walked kind start left right → told ≡ map pair_tuple kept → bag_of told ≡ (keyed_step kind window state left right).rows
+  end-rows : closes kind window ≡ true → kept ≡ walked kind start left right → emitted ≡ map pair_tuple kept → bag_of emitted ≡ (keyed_step kind window state left right).rows
   end-rows h k t = ap bag_of (t ∙ ap (map pair_tuple) (k ∙ whole)) ∙ (closing-end kind window state left right ascends h).0
 
-  pub end-ok : (new : List Pair) (rows : List Tuple) → closes kind window ≡ true → kept ≡ walked kind start left right → told ≡ map pair_tuple kept → new ≡ [] → rows ≡ bag_of told →
+  pub end-ok : (new : List Pair) (rows : List Tuple) → closes kind window ≡ true → kept ≡ walked kind start left right → emitted ≡ map pair_tuple kept → new ≡ [] → rows ≡ bag_of emitted →
       (new ≡ (keyed_step kind window state left right).state) × (rows ≡ (keyed_step kind window state left right).rows)
   end-ok new rows h k t n r = (n ∙ sym (closing-end kind window state left right ascends h).1, r ∙ end-rows h k t)
 
-  pub end-large : closes kind window ≡ true → kept ≡ walked kind start left right → told ≡ map pair_tuple kept → IsLarge tuple_key (bag_of told) → IsLarge tuple_key (keyed_step kind window state left right).rows
+  pub end-large : closes kind window ≡ true → kept ≡ walked kind start left right → emitted ≡ map pair_tuple kept → IsLarge tuple_key (bag_of emitted) → IsLarge tuple_key (keyed_step kind window state left right).rows
   end-large h k t large = subst (IsLarge tuple_key) (end-rows h k t) large
 
--- where what is kept is too large, the new state is, or the rows that it is told by are
+-- where what is kept is too large, the new state is, or the rows that it is emitted by are
 pub walk-large : (kind : Kind) (window : ℕ) (state start : List Pair) (left right : List Tuple) → IsStrictlySortedBy key_order (keys_of state) → start ≡ start_of kind state → IsLarge pair_key (walked kind start left right) →
     IsLarge pair_key (keyed_step kind window state left right).state ⊎ IsLarge tuple_key (keyed_step kind window state left right).rows
 walk-large kind window state start left right a begins large = by (closes kind window) refl

@@ -1,4 +1,4 @@
--- What the rules have in common: a key that doesn't come keeps its entry and tells nothing.
+-- What the rules have in common: a key that doesn't come keeps its entry and emits nothing.
 use Rattle.std.proofs.Common.{◌≡◌, ℕ, ℤ, true, false, List, [], ◌∷◌, refl, sym, Option, Some, None, arith}
 use Rattle.std.proofs.lemmas.Bool.Decides.{nat_tests}
 use Rattle.std.specs.Int.{int_max}
@@ -24,7 +24,7 @@ rule-open Enrich window key old lefts rights h = refl
 rule-open (Top k) window key old lefts rights h = refl
 
 -- a key that didn't come, of a kind that keeps entries
-pub rule-kept : (kind : Kind) (key : List ℕ) (old : Option ℤ) → keeps kind ≡ true → open_rule kind key old [] [] ≡ record { entry = old; told = [] }
+pub rule-kept : (kind : Kind) (key : List ℕ) (old : Option ℤ) → keeps kind ≡ true → open_rule kind key old [] [] ≡ record { entry = old; emitted = [] }
 unfolding open_rule rule
 rule-kept (Keep min max) key old h = cc
 rule-kept (Scale factor) key old h = cc
@@ -41,7 +41,7 @@ rule-kept Enrich key (Some v) h = refl
 rule-kept (Top k) key old h = cc
 
 -- a key that didn't come, of a kind that keeps nothing
-pub rule-quiet : (kind : Kind) (key : List ℕ) (old : Option ℤ) → keeps kind ≡ false → open_rule kind key old [] [] ≡ record { entry = None; told = [] }
+pub rule-quiet : (kind : Kind) (key : List ℕ) (old : Option ℤ) → keeps kind ≡ false → open_rule kind key old [] [] ≡ record { entry = None; emitted = [] }
 unfolding open_rule rule
 rule-quiet (Keep min max) key old h = refl
 rule-quiet (Scale factor) key old h = refl

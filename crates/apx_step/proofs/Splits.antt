@@ -52,21 +52,21 @@ past_word-shorter (byte ∷ bytes) h = by (is_blank byte) (past_word-short bytes
     by true h = omega arith
     by false h = omega arith
 
--- so what is told of the words is told of the first and of those after it
+-- so what is emitted of the words is emitted of the first and of those after it
 pub with_value-split : (value : ℤ) (bytes : List ℕ) → with_value value (words_of bytes) ≡ with_value value (unless_empty (first_word bytes)) ++ with_value value (words_of (past_word bytes))
 with_value-split value bytes = ap (with_value value) (words-split bytes) ∙ map-append (λ word. record { key = word; value = value }) (unless_empty (first_word bytes)) (words_of (past_word bytes))
 
 -- a step of a loop over the words
-pub told-next : (value : ℤ) (before now whole : List Tuple) (bytes word rest : List ℕ) → now ≡ before ++ with_value value (unless_empty word) → word ≡ first_word bytes → rest ≡ past_word bytes →
+pub emitted-next : (value : ℤ) (before now whole : List Tuple) (bytes word rest : List ℕ) → now ≡ before ++ with_value value (unless_empty word) → word ≡ first_word bytes → rest ≡ past_word bytes →
     before ++ with_value value (words_of bytes) ≡ whole → now ++ with_value value (words_of rest) ≡ whole
-told-next value before now whole bytes word rest told first past all =
-    (λ i. told i ++ with_value value (words_of (past i)))
+emitted-next value before now whole bytes word rest emitted first past all =
+    (λ i. emitted i ++ with_value value (words_of (past i)))
     ∙ ap (λ w. (before ++ with_value value (unless_empty w)) ++ with_value value (words_of (past_word bytes))) first
     ∙ append_assoc before (with_value value (unless_empty (first_word bytes))) (with_value value (words_of (past_word bytes)))
     ∙ ap (λ l. before ++ l) (sym (with_value-split value bytes)) ∙ all
 
 -- the end of such a loop
-pub told-end : (value : ℤ) (now whole : List Tuple) (bytes : List ℕ) → length bytes ≡ 0 → now ++ with_value value (words_of bytes) ≡ whole → now ≡ whole
+pub emitted-end : (value : ℤ) (now whole : List Tuple) (bytes : List ℕ) → length bytes ≡ 0 → now ++ with_value value (words_of bytes) ≡ whole → now ≡ whole
 unfolding cut_at_blanks
-told-end value now whole [] e all = sym (append-nil now) ∙ all
-told-end value now whole (byte ∷ bytes) e all = absurd (omega arith)
+emitted-end value now whole [] e all = sym (append-nil now) ∙ all
+emitted-end value now whole (byte ∷ bytes) e all = absurd (omega arith)

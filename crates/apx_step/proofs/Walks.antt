@@ -19,7 +19,7 @@ use Rattle.apx_tuple.proofs.Sizes.{size_by-with_entry-le}
 use Rattle.apx_rules.specs.Rule.{Outcome}
 use Rattle.apx_rules.specs.Step.{values_of}
 use Rattle.apx_rules.proofs.Pairs.{same_key, value_at-with_entry, with_entry-ascends, with_entry-same}
-use Rattle.apx_step.specs.Walk.{values, keys_came, first_key, group_of, past_group, put, put_all, walked, told_of, open_outcome, open_rule}
+use Rattle.apx_step.specs.Walk.{values, keys_came, first_key, group_of, past_group, put, put_all, walked, emitted_of, open_outcome, open_rule}
 use Rattle.apx_step.proofs.Groups.{keys, past-times, past-values, past-ascends, past-none, group-values, IsFirst, first_key-first, keys_came-first}
 
 -- ---- entries put one after the other
@@ -67,7 +67,7 @@ abbrev entry_of : Kind → List Pair → List Tuple → List Tuple → List ℕ 
 entry_of kind start left right key = (open_outcome kind start left right key).entry
 
 abbrev rows_of : Kind → List Pair → List Tuple → List Tuple → List ℕ → List Tuple
-rows_of kind start left right key = (open_outcome kind start left right key).told
+rows_of kind start left right key = (open_outcome kind start left right key).emitted
 
 -- a key that is left has what it had at the start
 pub record IsFresh (start : List Pair) (left right : List Tuple) (pairs : List Pair) (lefts rights : List Tuple) (q : List ℕ) : Type 0 where
@@ -76,17 +76,17 @@ pub record IsFresh (start : List Pair) (left right : List Tuple) (pairs : List P
   pub rights_same : values_of q rights ≡ values_of q right
 
 -- the walk on `left` and `right` has `lefts` and `rights` left
-pub record IsWalking (kind : Kind) (start : List Pair) (left right : List Tuple) (pairs : List Pair) (told lefts rights : List Tuple) : Type 0 where
+pub record IsWalking (kind : Kind) (start : List Pair) (left right : List Tuple) (pairs : List Pair) (emitted lefts rights : List Tuple) : Type 0 where
   pub left_ascends : IsAscending key_order (keys lefts)
   pub right_ascends : IsAscending key_order (keys rights)
   pub pairs_ascend : IsStrictlySortedBy key_order (keys_of pairs)
   pub fresh : (q : List ℕ) → 0 < times key_order q (keys lefts ++ keys rights) → IsFresh start left right pairs lefts rights q
   pub state : put_all (entry_of kind start left right) (keys_came lefts rights) pairs ≡ walked kind start left right
-  pub rows : told ++ flat_map (rows_of kind start left right) (keys_came lefts rights) ≡ told_of kind start left right
+  pub rows : emitted ++ flat_map (rows_of kind start left right) (keys_came lefts rights) ≡ emitted_of kind start left right
 
 pub walking-start : (kind : Kind) (start : List Pair) (left right : List Tuple) → IsStrictlySortedBy key_order (keys_of start) → IsAscending key_order (keys left) → IsAscending key_order (keys right) →
     IsWalking kind start left right start [] left right
-unfolding walked told_of
+unfolding walked emitted_of
 walking-start kind start left right s a b = record {
   left_ascends = a;
   right_ascends = b;
@@ -97,7 +97,7 @@ walking-start kind start left right s a b = record {
 }
 
 -- one key is taken
-module _ (kind : Kind) (start : List Pair) (left right : List Tuple) (pairs : List Pair) (told lefts rights : List Tuple) (w : IsWalking kind start left right pairs told lefts rights) (key : List ℕ) (first : Some key ≡ first_key lefts rights) where
+module _ (kind : Kind) (start : List Pair) (left right : List Tuple) (pairs : List Pair) (emitted lefts rights : List Tuple) (w : IsWalking kind start left right pairs emitted lefts rights) (key : List ℕ) (first : Some key ≡ first_key lefts rights) where
   least : IsFirst key lefts rights
   least = first_key-first key lefts rights w.left_ascends w.right_ascends first
 
@@ -123,11 +123,11 @@ module _ (kind : Kind) (start : List Pair) (left right : List Tuple) (pairs : Li
       ap (λ (o : Outcome). put_all (entry_of kind start left right) (keys_came (past_group key lefts) (past_group key rights)) (put o.entry key pairs)) same-outcome
       ∙ ap (λ ks. put_all (entry_of kind start left right) ks pairs) (sym first-came) ∙ w.state
 
-  rows-next : (told ++ now.told) ++ flat_map (rows_of kind start left right) (keys_came (past_group key lefts) (past_group key rights)) ≡ told_of kind start left right
+  rows-next : (emitted ++ now.emitted) ++ flat_map (rows_of kind start left right) (keys_came (past_group key lefts) (past_group key rights)) ≡ emitted_of kind start left right
   rows-next =
-      ap (λ (o : Outcome). (told ++ o.told) ++ flat_map (rows_of kind start left right) (keys_came (past_group key lefts) (past_group key rights))) same-outcome
-      ∙ append_assoc told (rows_of kind start left right key) (flat_map (rows_of kind start left right) (keys_came (past_group key lefts) (past_group key rights)))
-      ∙ ap (λ ks. told ++ flat_map (rows_of kind start left right) ks) (sym first-came) ∙ w.rows
+      ap (λ (o : Outcome). (emitted ++ o.emitted) ++ flat_map (rows_of kind start left right) (keys_came (past_group key lefts) (past_group key rights))) same-outcome
+      ∙ append_assoc emitted (rows_of kind start left right key) (flat_map (rows_of kind start left right) (keys_came (past_group key lefts) (past_group key rights)))
+      ∙ ap (λ ks. emitted ++ flat_map (rows_of kind start left right) ks) (sym first-came) ∙ w.rows
 
   fresh-next : (entry : Option ℤ) (q : List ℕ) → 0 < times key_order q (keys (past_group key lefts) ++ keys (past_group key rights)) → IsFresh start left right (put entry key pairs) (past_group key lefts) (past_group key rights) q
   fresh-next entry q h = by (is_eq (key_order q key)) refl
@@ -146,17 +146,17 @@ module _ (kind : Kind) (start : List Pair) (left right : List Tuple) (pairs : Li
             rights_same = past-values q key rights e ∙ f.rights_same;
           }
 
-  pub walking-next : (entry : Option ℤ) (pairs' : List Pair) (told' ls rs lefts' rights' : List Tuple) (old : Option ℤ) →
+  pub walking-next : (entry : Option ℤ) (pairs' : List Pair) (emitted' ls rs lefts' rights' : List Tuple) (old : Option ℤ) →
       ls ≡ group_of key lefts → rs ≡ group_of key rights → lefts' ≡ past_group key lefts → rights' ≡ past_group key rights → old ≡ value_at pairs key →
-      entry ≡ (open_rule kind key old (values ls) (values rs)).entry → told' ≡ told ++ (open_rule kind key old (values ls) (values rs)).told → pairs' ≡ put entry key pairs →
-      IsWalking kind start left right pairs' told' lefts' rights'
+      entry ≡ (open_rule kind key old (values ls) (values rs)).entry → emitted' ≡ emitted ++ (open_rule kind key old (values ls) (values rs)).emitted → pairs' ≡ put entry key pairs →
+      IsWalking kind start left right pairs' emitted' lefts' rights'
   unfolding now
-  walking-next entry pairs' told' ls rs lefts' rights' old gl gr pl pr o e t p =
+  walking-next entry pairs' emitted' ls rs lefts' rights' old gl gr pl pr o e t p =
       let is : open_rule kind key old (values ls) (values rs) ≡ now = λ i. open_rule kind key (o i) (values (gl i)) (values (gr i)) in
       let entry_is : entry ≡ now.entry = e ∙ ap (λ (x : Outcome). x.entry) is in
-      let told_is : told' ≡ told ++ now.told = t ∙ ap (λ (x : Outcome). told ++ x.told) is in
+      let emitted_is : emitted' ≡ emitted ++ now.emitted = t ∙ ap (λ (x : Outcome). emitted ++ x.emitted) is in
       let pairs_is : pairs' ≡ put now.entry key pairs = p ∙ ap (λ x. put x key pairs) entry_is in
-      let next : IsWalking kind start left right (put now.entry key pairs) (told ++ now.told) (past_group key lefts) (past_group key rights) = record {
+      let next : IsWalking kind start left right (put now.entry key pairs) (emitted ++ now.emitted) (past_group key lefts) (past_group key rights) = record {
         left_ascends = past-ascends key lefts w.left_ascends;
         right_ascends = past-ascends key rights w.right_ascends;
         pairs_ascend = put-ascends now.entry key pairs w.pairs_ascend;
@@ -164,7 +164,7 @@ module _ (kind : Kind) (start : List Pair) (left right : List Tuple) (pairs : Li
         state = state-next;
         rows = rows-next;
       } in
-      subst (λ (x : List Pair × List Tuple × List Tuple × List Tuple). IsWalking kind start left right x.0 x.1 x.2 x.3) (λ i. (sym pairs_is i, sym told_is i, sym pl i, sym pr i)) next
+      subst (λ (x : List Pair × List Tuple × List Tuple × List Tuple). IsWalking kind start left right x.0 x.1 x.2 x.3) (λ i. (sym pairs_is i, sym emitted_is i, sym pl i, sym pr i)) next
 
   -- where the entry makes the pairs too large, they are too large at the end
   pub walking-large : (entry old : Option ℤ) (ls rs : List Tuple) → ls ≡ group_of key lefts → rs ≡ group_of key rights → old ≡ value_at pairs key →
@@ -178,10 +178,10 @@ module _ (kind : Kind) (start : List Pair) (left right : List Tuple) (pairs : Li
       subst (IsLarge pair_key) state-next (omega (arith, here, grown))
 
 -- nothing is left
-pub walking-end : (kind : Kind) (start : List Pair) (left right : List Tuple) (pairs : List Pair) (told lefts rights : List Tuple) → IsWalking kind start left right pairs told lefts rights → None ≡ first_key lefts rights →
-    (pairs ≡ walked kind start left right) × (told ≡ told_of kind start left right)
+pub walking-end : (kind : Kind) (start : List Pair) (left right : List Tuple) (pairs : List Pair) (emitted lefts rights : List Tuple) → IsWalking kind start left right pairs emitted lefts rights → None ≡ first_key lefts rights →
+    (pairs ≡ walked kind start left right) × (emitted ≡ emitted_of kind start left right)
 unfolding each_once
-walking-end kind start left right pairs told [] [] w e = (w.state, sym (append-nil told) ∙ w.rows)
-walking-end kind start left right pairs told (l ∷ lefts) [] w e = cc
-walking-end kind start left right pairs told [] (r ∷ rights) w e = cc
-walking-end kind start left right pairs told (l ∷ lefts) (r ∷ rights) w e = cc
+walking-end kind start left right pairs emitted [] [] w e = (w.state, sym (append-nil emitted) ∙ w.rows)
+walking-end kind start left right pairs emitted (l ∷ lefts) [] w e = cc
+walking-end kind start left right pairs emitted [] (r ∷ rights) w e = cc
+walking-end kind start left right pairs emitted (l ∷ lefts) (r ∷ rights) w e = cc

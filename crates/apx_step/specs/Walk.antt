@@ -17,17 +17,17 @@ values tuples = map (λ t. t.value) tuples
 
 -- what an operator makes of a key at a window that ends no sum; no kind but `tumble` looks at the window
 unfoldable pub open_rule : Kind → List ℕ → Option ℤ → List ℤ → List ℤ → Outcome
-open_rule (Tumble every) key old lefts rights = record { entry = cond (came lefts) (Some (total (unwrap_or old (pos 0)) lefts)) old; told = [] }
+open_rule (Tumble every) key old lefts rights = record { entry = cond (came lefts) (Some (total (unwrap_or old (pos 0)) lefts)) old; emitted = [] }
 open_rule kind key old lefts rights = rule kind 0 key old lefts rights
 
--- what the kinds that keep nothing tell of a key; the others have no part in it
-unfoldable pub told_of_passing : Kind → List ℕ → List ℤ → List ℤ → List Tuple
-told_of_passing (Keep min max) key lefts rights = (keep_rule min max key lefts).told
-told_of_passing (Scale factor) key lefts rights = (scale_rule factor key lefts).told
-told_of_passing Words key lefts rights = (words_rule key lefts).told
-told_of_passing (Prefix len) key lefts rights = (prefix_rule len key lefts).told
-told_of_passing Match key lefts rights = (match_rule key lefts rights).told
-told_of_passing kind key lefts rights = []
+-- what the kinds that keep nothing emit of a key; the others have no part in it
+unfoldable pub emitted_of_passing : Kind → List ℕ → List ℤ → List ℤ → List Tuple
+emitted_of_passing (Keep min max) key lefts rights = (keep_rule min max key lefts).emitted
+emitted_of_passing (Scale factor) key lefts rights = (scale_rule factor key lefts).emitted
+emitted_of_passing Words key lefts rights = (words_rule key lefts).emitted
+emitted_of_passing (Prefix len) key lefts rights = (prefix_rule len key lefts).emitted
+emitted_of_passing Match key lefts rights = (match_rule key lefts rights).emitted
+emitted_of_passing kind key lefts rights = []
 
 -- the same, of a key's tuples in the two bags
 abbrev pub open_outcome : Kind → List Pair → List Tuple → List Tuple → List ℕ → Outcome
@@ -51,9 +51,9 @@ put_all entry (key ∷ keys) pairs = put_all entry keys (put (entry key) key pai
 unfoldable pub walked : Kind → List Pair → List Tuple → List Tuple → List Pair
 walked kind pairs left right = put_all (λ key. (open_outcome kind pairs left right key).entry) (keys_came left right) pairs
 
--- what is told on the walk
-unfoldable pub told_of : Kind → List Pair → List Tuple → List Tuple → List Tuple
-told_of kind pairs left right = flat_map (λ key. (open_outcome kind pairs left right key).told) (keys_came left right)
+-- what is emitted on the walk
+unfoldable pub emitted_of : Kind → List Pair → List Tuple → List Tuple → List Tuple
+emitted_of kind pairs left right = flat_map (λ key. (open_outcome kind pairs left right key).emitted) (keys_came left right)
 
 -- the lesser of the keys that two lists begin with
 abbrev pub first_key : List Tuple → List Tuple → Option (List ℕ)
@@ -86,7 +86,7 @@ keeps kind = false
 abbrev pub start_of : Kind → List Pair → List Pair
 start_of kind pairs = cond (keeps kind) pairs []
 
--- the windows at which an operator tells all it keeps, and forgets it
+-- the windows at which an operator emits all it keeps, and forgets it
 abbrev pub closes : Kind → ℕ → Bool
 closes (Tumble every) window = window % every == 0
 closes kind window = false

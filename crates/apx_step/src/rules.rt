@@ -1,17 +1,17 @@
 //! The rule of each kind for one key.
 ghost use Rattle.std.specs.Prelude.{◌≡◌, ◌≤◌, ℤ, int_le, ◌&&◌, pos, List, [], ◌∷◌, ◌++◌, length, map, take, filter, cond, IfOk, OnOk, unwrap_or};
 ghost use Rattle.apx_rules.specs.Rule.{keep_rule, scale_rule, prefix_rule, total, greatest, with_entry_added, tuples_of, came, rose, count_rule, sum_rule, peak_rule, first_rule, match_rule, enrich_rule, words_rule};
-ghost use Rattle.apx_step.specs.Walk.{values, open_rule, told_of_passing};
+ghost use Rattle.apx_step.specs.Walk.{values, open_rule, emitted_of_passing};
 
-use crate::words::tell_words;
+use crate::words::emit_words;
 use apx_tuple::{Key, KeyRefusal, Kind, Tuple};
 use std::alloc::{AllocError, Global};
 
-/// Adds a tuple to those that are told.
-pub(crate) fn tell(key: &Key, value: i64, told: &mut Vec<Tuple>) -> Result<(), AllocError>
-    ensures { OnOk result (told.new.items ≡ told.old.items ++ record { key = key.now; value = value } ∷ []) }
+/// Adds a tuple to those that are emitted.
+pub(crate) fn emit(key: &Key, value: i64, emitted: &mut Vec<Tuple>) -> Result<(), AllocError>
+    ensures { OnOk result (emitted.new.items ≡ emitted.old.items ++ record { key = key.now; value = value } ∷ []) }
 {
-    told.push(Tuple {
+    emitted.push(Tuple {
         key: key.copy()?,
         value,
     })?;
@@ -25,60 +25,60 @@ fn is_within(min: i64, max: i64, value: i64) -> bool
     min <= value && value <= max
 }
 
-/// Tells the tuples whose value is from `min` to `max`.
-fn tell_kept(
+/// Emits the tuples whose value is from `min` to `max`.
+fn emit_kept(
     min: i64,
     max: i64,
     key: &Key,
     tuples: &[Tuple],
-    told: &mut Vec<Tuple>,
+    emitted: &mut Vec<Tuple>,
 ) -> Result<(), AllocError>
-    ensures { OnOk result (told.new.items ≡ told.old.items ++ (keep_rule min max key.now (values tuples.now)).told) }
+    ensures { OnOk result (emitted.new.items ≡ emitted.old.items ++ (keep_rule min max key.now (values tuples.now)).emitted) }
 {
     for tuple in tuples {
         if is_within(min, max, tuple.value) {
-            tell(key, tuple.value, told)?;
+            emit(key, tuple.value, emitted)?;
         }
     }
     Ok(())
 }
 
-/// Tells the tuples with their values multiplied by `factor`.
-fn tell_scaled(
+/// Emits the tuples with their values multiplied by `factor`.
+fn emit_scaled(
     factor: i64,
     key: &Key,
     tuples: &[Tuple],
-    told: &mut Vec<Tuple>,
+    emitted: &mut Vec<Tuple>,
 ) -> Result<(), AllocError>
-    ensures { OnOk result (told.new.items ≡ told.old.items ++ (scale_rule factor key.now (values tuples.now)).told) }
+    ensures { OnOk result (emitted.new.items ≡ emitted.old.items ++ (scale_rule factor key.now (values tuples.now)).emitted) }
 {
     for tuple in tuples {
-        tell(key, tuple.value.wrapping_mul(factor), told)?;
+        emit(key, tuple.value.wrapping_mul(factor), emitted)?;
     }
     Ok(())
 }
 
-/// Tells the tuples with another key.
-fn tell_as(key: &Key, tuples: &[Tuple], told: &mut Vec<Tuple>) -> Result<(), AllocError>
-    ensures { OnOk result (told.new.items ≡ told.old.items ++ tuples_of key.now (values tuples.now)) }
+/// Emits the tuples with another key.
+fn emit_as(key: &Key, tuples: &[Tuple], emitted: &mut Vec<Tuple>) -> Result<(), AllocError>
+    ensures { OnOk result (emitted.new.items ≡ emitted.old.items ++ tuples_of key.now (values tuples.now)) }
 {
     for tuple in tuples {
-        tell(key, tuple.value, told)?;
+        emit(key, tuple.value, emitted)?;
     }
     Ok(())
 }
 
-/// Tells the tuples with `more` added to their values.
-fn tell_raised(
+/// Emits the tuples with `more` added to their values.
+fn emit_raised(
     more: i64,
     key: &Key,
     tuples: &[Tuple],
-    told: &mut Vec<Tuple>,
+    emitted: &mut Vec<Tuple>,
 ) -> Result<(), AllocError>
-    ensures { OnOk result (told.new.items ≡ told.old.items ++ tuples_of key.now (with_entry_added (Some more) (values tuples.now))) }
+    ensures { OnOk result (emitted.new.items ≡ emitted.old.items ++ tuples_of key.now (with_entry_added (Some more) (values tuples.now))) }
 {
     for tuple in tuples {
-        tell(key, tuple.value.wrapping_add(more), told)?;
+        emit(key, tuple.value.wrapping_add(more), emitted)?;
     }
     Ok(())
 }
@@ -117,27 +117,27 @@ pub(crate) fn key_of(alloc: Global, bytes: &[u8]) -> Result<Key, AllocError>
     }
 }
 
-/// Tells the tuples with the key cut to its first `len` bytes.
-fn tell_cut(
+/// Emits the tuples with the key cut to its first `len` bytes.
+fn emit_cut(
     alloc: Global,
     len: u16,
     key: &Key,
     tuples: &[Tuple],
-    told: &mut Vec<Tuple>,
+    emitted: &mut Vec<Tuple>,
 ) -> Result<(), AllocError>
-    ensures { OnOk result (told.new.items ≡ told.old.items ++ (prefix_rule len key.now (values tuples.now)).told) }
+    ensures { OnOk result (emitted.new.items ≡ emitted.old.items ++ (prefix_rule len key.now (values tuples.now)).emitted) }
 {
     let bytes = key.bytes();
     let cut = key_of(alloc, &bytes[..bytes.len().min(len as usize)])?;
-    tell_as(&cut, tuples, told)
+    emit_as(&cut, tuples, emitted)
 }
 
-/// Tells the number that is kept for the key from then on.
-fn tell_running(key: &Key, value: i64, told: &mut Vec<Tuple>) -> Result<Option<i64>, AllocError>
+/// Emits the number that is kept for the key from then on.
+fn emit_running(key: &Key, value: i64, emitted: &mut Vec<Tuple>) -> Result<Option<i64>, AllocError>
     ensures entry { IfOk result (λ entry. entry ≡ Some value) }
-    ensures told { OnOk result (told.new.items ≡ told.old.items ++ record { key = key.now; value = value } ∷ []) }
+    ensures emitted { OnOk result (emitted.new.items ≡ emitted.old.items ++ record { key = key.now; value = value } ∷ []) }
 {
-    tell(key, value, told)?;
+    emit(key, value, emitted)?;
     Ok(Some(value))
 }
 
@@ -146,15 +146,19 @@ fn count(
     key: &Key,
     old: Option<i64>,
     lefts: &[Tuple],
-    told: &mut Vec<Tuple>,
+    emitted: &mut Vec<Tuple>,
 ) -> Result<Option<i64>, AllocError>
     ensures entry { IfOk result (λ entry. entry ≡ (count_rule key.now old (values lefts.now)).entry) }
-    ensures told { OnOk result (told.new.items ≡ told.old.items ++ (count_rule key.now old (values lefts.now)).told) }
+    ensures emitted { OnOk result (emitted.new.items ≡ emitted.old.items ++ (count_rule key.now old (values lefts.now)).emitted) }
 {
     if lefts.is_empty() {
         return Ok(old);
     }
-    tell_running(key, old.unwrap_or(0).wrapping_add(lefts.len() as i64), told)
+    emit_running(
+        key,
+        old.unwrap_or(0).wrapping_add(lefts.len() as i64),
+        emitted,
+    )
 }
 
 /// Adds up the values.
@@ -162,15 +166,15 @@ fn sum(
     key: &Key,
     old: Option<i64>,
     lefts: &[Tuple],
-    told: &mut Vec<Tuple>,
+    emitted: &mut Vec<Tuple>,
 ) -> Result<Option<i64>, AllocError>
     ensures entry { IfOk result (λ entry. entry ≡ (sum_rule key.now old (values lefts.now)).entry) }
-    ensures told { OnOk result (told.new.items ≡ told.old.items ++ (sum_rule key.now old (values lefts.now)).told) }
+    ensures emitted { OnOk result (emitted.new.items ≡ emitted.old.items ++ (sum_rule key.now old (values lefts.now)).emitted) }
 {
     if lefts.is_empty() {
         return Ok(old);
     }
-    tell_running(key, total(old.unwrap_or(0), lefts), told)
+    emit_running(key, total(old.unwrap_or(0), lefts), emitted)
 }
 
 /// Whether an entry is new or greater than before.
@@ -183,46 +187,46 @@ fn rose(old: Option<i64>, value: i64) -> bool
     }
 }
 
-/// Keeps the greatest value, and tells it where it is the first or rose.
+/// Keeps the greatest value, and emits it where it is the first or rose.
 fn peak(
     key: &Key,
     old: Option<i64>,
     lefts: &[Tuple],
-    told: &mut Vec<Tuple>,
+    emitted: &mut Vec<Tuple>,
 ) -> Result<Option<i64>, AllocError>
     ensures entry { IfOk result (λ entry. entry ≡ (peak_rule key.now old (values lefts.now)).entry) }
-    ensures told { OnOk result (told.new.items ≡ told.old.items ++ (peak_rule key.now old (values lefts.now)).told) }
+    ensures emitted { OnOk result (emitted.new.items ≡ emitted.old.items ++ (peak_rule key.now old (values lefts.now)).emitted) }
 {
     let [least, ..] = lefts else {
         return Ok(old);
     };
     let peak = greatest(old, lefts).unwrap_or(least.value);
     if rose(old, peak) {
-        tell(key, peak, told)?;
+        emit(key, peak, emitted)?;
     }
     Ok(Some(peak))
 }
 
-/// Tells the least value of a key that came for the first time.
+/// Emits the least value of a key that came for the first time.
 fn first(
     key: &Key,
     old: Option<i64>,
     lefts: &[Tuple],
-    told: &mut Vec<Tuple>,
+    emitted: &mut Vec<Tuple>,
 ) -> Result<Option<i64>, AllocError>
     ensures entry { IfOk result (λ entry. entry ≡ (first_rule key.now old (values lefts.now)).entry) }
-    ensures told { OnOk result (told.new.items ≡ told.old.items ++ (first_rule key.now old (values lefts.now)).told) }
+    ensures emitted { OnOk result (emitted.new.items ≡ emitted.old.items ++ (first_rule key.now old (values lefts.now)).emitted) }
 {
     let [least, ..] = lefts else {
         return Ok(old);
     };
     if old.is_none() {
-        tell(key, least.value, told)?;
+        emit(key, least.value, emitted)?;
     }
     Ok(Some(1))
 }
 
-/// Adds up the values, and tells nothing.
+/// Adds up the values, and emits nothing.
 fn gathered(old: Option<i64>, lefts: &[Tuple]) -> Option<i64>
     ensures { result ≡ cond (came (values lefts.now)) (Some (total (unwrap_or old (pos 0)) (values lefts.now))) old }
 {
@@ -234,18 +238,18 @@ fn gathered(old: Option<i64>, lefts: &[Tuple]) -> Option<i64>
 }
 
 /// Passes on the left tuples of a key that came on the right.
-fn tell_matched(
+fn emit_matched(
     key: &Key,
     lefts: &[Tuple],
     rights: &[Tuple],
-    told: &mut Vec<Tuple>,
+    emitted: &mut Vec<Tuple>,
 ) -> Result<(), AllocError>
-    ensures { OnOk result (told.new.items ≡ told.old.items ++ (match_rule key.now (values lefts.now) (values rights.now)).told) }
+    ensures { OnOk result (emitted.new.items ≡ emitted.old.items ++ (match_rule key.now (values lefts.now) (values rights.now)).emitted) }
 {
     if rights.is_empty() {
         return Ok(());
     }
-    tell_as(key, lefts, told)
+    emit_as(key, lefts, emitted)
 }
 
 /// The entry of a key that joins: the greatest right value, where there is one.
@@ -265,20 +269,20 @@ fn enrich(
     old: Option<i64>,
     lefts: &[Tuple],
     rights: &[Tuple],
-    told: &mut Vec<Tuple>,
+    emitted: &mut Vec<Tuple>,
 ) -> Result<Option<i64>, AllocError>
     ensures entry { IfOk result (λ entry. entry ≡ (enrich_rule key.now old (values lefts.now) (values rights.now)).entry) }
-    ensures told { OnOk result (told.new.items ≡ told.old.items ++ (enrich_rule key.now old (values lefts.now) (values rights.now)).told) }
+    ensures emitted { OnOk result (emitted.new.items ≡ emitted.old.items ++ (enrich_rule key.now old (values lefts.now) (values rights.now)).emitted) }
 {
     let entry = newest(old, rights);
     if let Some(more) = entry {
-        tell_raised(more, key, lefts, told)?;
+        emit_raised(more, key, lefts, emitted)?;
     }
     Ok(entry)
 }
 
-/// What the kind makes of a key at a window that ends no sum: its new entry. The tuples told are added to `told`.
-#[tactic(auto, unfolding(apx_rules::specs::Rule::rule, crate::specs::Walk::open_rule, crate::specs::Walk::told_of_passing))]
+/// What the kind makes of a key at a window that ends no sum: its new entry. The tuples emitted are added to `emitted`.
+#[tactic(auto, unfolding(apx_rules::specs::Rule::rule, crate::specs::Walk::open_rule, crate::specs::Walk::emitted_of_passing))]
 pub(crate) fn apply(
     alloc: Global,
     kind: &Kind,
@@ -286,58 +290,58 @@ pub(crate) fn apply(
     old: Option<i64>,
     lefts: &[Tuple],
     rights: &[Tuple],
-    told: &mut Vec<Tuple>,
+    emitted: &mut Vec<Tuple>,
 ) -> Result<Option<i64>, AllocError>
     ensures entry { IfOk result (λ entry. entry ≡ (open_rule kind.now key.now old (values lefts.now) (values rights.now)).entry) }
-    ensures told { OnOk result (told.new.items ≡ told.old.items ++ (open_rule kind.now key.now old (values lefts.now) (values rights.now)).told) }
+    ensures emitted { OnOk result (emitted.new.items ≡ emitted.old.items ++ (open_rule kind.now key.now old (values lefts.now) (values rights.now)).emitted) }
 {
     match *kind {
-        Kind::Count => count(key, old, lefts, told),
-        Kind::Sum => sum(key, old, lefts, told),
-        Kind::Peak => peak(key, old, lefts, told),
-        Kind::First => first(key, old, lefts, told),
+        Kind::Count => count(key, old, lefts, emitted),
+        Kind::Sum => sum(key, old, lefts, emitted),
+        Kind::Peak => peak(key, old, lefts, emitted),
+        Kind::First => first(key, old, lefts, emitted),
         Kind::Tumble { .. } => Ok(gathered(old, lefts)),
-        Kind::Enrich => enrich(key, old, lefts, rights, told),
+        Kind::Enrich => enrich(key, old, lefts, rights, emitted),
         _ => {
-            pass_on(alloc, kind, key, lefts, rights, told)?;
+            pass_on(alloc, kind, key, lefts, rights, emitted)?;
             Ok(None)
         }
     }
 }
 
-/// What a kind that keeps nothing tells of a key.
-#[tactic(auto, unfolding(crate::specs::Walk::told_of_passing))]
+/// What a kind that keeps nothing emits of a key.
+#[tactic(auto, unfolding(crate::specs::Walk::emitted_of_passing))]
 fn pass_on(
     alloc: Global,
     kind: &Kind,
     key: &Key,
     lefts: &[Tuple],
     rights: &[Tuple],
-    told: &mut Vec<Tuple>,
+    emitted: &mut Vec<Tuple>,
 ) -> Result<(), AllocError>
-    ensures { OnOk result (told.new.items ≡ told.old.items ++ told_of_passing kind.now key.now (values lefts.now) (values rights.now)) }
+    ensures { OnOk result (emitted.new.items ≡ emitted.old.items ++ emitted_of_passing kind.now key.now (values lefts.now) (values rights.now)) }
 {
     match *kind {
-        Kind::Keep { min, max } => tell_kept(min, max, key, lefts, told),
-        Kind::Scale { factor } => tell_scaled(factor, key, lefts, told),
-        Kind::Words => tell_all_words(alloc, key, lefts, told),
-        Kind::Prefix { len } => tell_cut(alloc, len, key, lefts, told),
-        Kind::Match => tell_matched(key, lefts, rights, told),
+        Kind::Keep { min, max } => emit_kept(min, max, key, lefts, emitted),
+        Kind::Scale { factor } => emit_scaled(factor, key, lefts, emitted),
+        Kind::Words => emit_all_words(alloc, key, lefts, emitted),
+        Kind::Prefix { len } => emit_cut(alloc, len, key, lefts, emitted),
+        Kind::Match => emit_matched(key, lefts, rights, emitted),
         _ => Ok(()),
     }
 }
 
-/// Tells each word of the key, with each of its values.
-fn tell_all_words(
+/// Emits each word of the key, with each of its values.
+fn emit_all_words(
     alloc: Global,
     key: &Key,
     tuples: &[Tuple],
-    told: &mut Vec<Tuple>,
+    emitted: &mut Vec<Tuple>,
 ) -> Result<(), AllocError>
-    ensures { OnOk result (told.new.items ≡ told.old.items ++ (words_rule key.now (values tuples.now)).told) }
+    ensures { OnOk result (emitted.new.items ≡ emitted.old.items ++ (words_rule key.now (values tuples.now)).emitted) }
 {
     for tuple in tuples {
-        tell_words(alloc, key, tuple.value, told)?;
+        emit_words(alloc, key, tuple.value, emitted)?;
     }
     Ok(())
 }

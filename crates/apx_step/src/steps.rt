@@ -6,7 +6,7 @@ ghost use Rattle.apx_tuple.specs.Tuple.{tuple_key};
 ghost use Rattle.apx_rules.specs.Step.{keyed_step, step};
 ghost use Rattle.apx_step.specs.Walk.{keeps, start_of, closes, pair_tuple};
 
-use crate::rules::tell;
+use crate::rules::emit;
 use crate::top::top;
 use crate::walk::walk;
 use apx_tuple::{Bag, Kind, Short, State, Tuple};
@@ -46,12 +46,12 @@ fn keyed_step(
     ensures large { result ≡ Err Short.Large → IsLarge pair_key (keyed_step kind.now window state.now left.now right.now).state ⊎ IsLarge tuple_key (keyed_step kind.now window state.now left.now right.now).rows }
 {
     let start = start_of(alloc, kind, state)?;
-    let (kept, told) = walk(alloc, kind, start, left, right)?;
+    let (kept, emitted) = walk(alloc, kind, start, left, right)?;
     if closes(kind, window) {
         let rows = Bag::of(all_kept(alloc, &kept)?)?;
         return Ok((State::new(alloc), rows));
     }
-    Ok((kept, Bag::of(told)?))
+    Ok((kept, Bag::of(emitted)?))
 }
 
 /// What the walk begins with: the state, where the kind keeps entries.
@@ -75,7 +75,7 @@ fn keeps(kind: &Kind) -> bool
     )
 }
 
-/// Whether all that is kept is told at the window, and forgotten.
+/// Whether all that is kept is emitted at the window, and forgotten.
 fn closes(kind: &Kind, window: u32) -> bool
     ensures { result ≡ closes kind.now window }
 {
@@ -87,11 +87,11 @@ fn closes(kind: &Kind, window: u32) -> bool
 
 /// All pairs of the state as tuples.
 fn all_kept(alloc: Global, state: &State) -> Result<Vec<Tuple>, AllocError>
-    ensures { IfOk result (λ told. told.items ≡ map pair_tuple state.now) }
+    ensures { IfOk result (λ emitted. emitted.items ≡ map pair_tuple state.now) }
 {
-    let mut told = Vec::new(alloc);
+    let mut emitted = Vec::new(alloc);
     for (key, value) in state.pairs() {
-        tell(key, value, &mut told)?;
+        emit(key, value, &mut emitted)?;
     }
-    Ok(told)
+    Ok(emitted)
 }

@@ -94,8 +94,8 @@ fn joins_read_the_right_port(rt: HostRuntime) -> Result<(), Fail> {
     let alloc = rt.alloc();
     let table = [(Kind::Enrich, "k=11,;k=12,;"), (Kind::Match, "k=1,;;")];
     for (kind, rows) in table {
-        let told = rows_of(alloc, kind, "k=1;k=2,z=1", "k=7,k=10;")?;
-        assert_eq!(rt; told.as_str(), rows);
+        let emitted = rows_of(alloc, kind, "k=1;k=2,z=1", "k=7,k=10;")?;
+        assert_eq!(rt; emitted.as_str(), rows);
     }
     Ok(())
 }

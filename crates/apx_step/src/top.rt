@@ -9,7 +9,7 @@ ghost use Rattle.apx_order.specs.Sorted.{sorted};
 ghost use Rattle.apx_step.specs.Ranks.{rank_order-total};
 ghost use Rattle.apx_step.specs.Places.{tuples_ranked};
 
-use crate::rules::tell;
+use crate::rules::emit;
 use apx_tuple::{Bag, Short, Tuple};
 use std::alloc::{AllocError, Global};
 use std::cmp::Ordering;
@@ -85,7 +85,7 @@ fn copied(alloc: Global, ranked: &[Ranked<'_>]) -> Result<Vec<Tuple>, AllocError
     let mut tuples = Vec::new(alloc);
     for place in ranked {
         let tuple = place.0;
-        tell(&tuple.key, tuple.value, &mut tuples)?;
+        emit(&tuple.key, tuple.value, &mut tuples)?;
     }
     Ok(tuples)
 }

@@ -7,7 +7,7 @@ ghost use Rattle.std.specs.List.Sorted.{IsStrictlySortedBy};
 ghost use Rattle.apx_tuple.specs.Size.{IsLarge};
 ghost use Rattle.apx_tuple.specs.State.{pair_key, value_at};
 ghost use Rattle.apx_tuple.specs.Tuple.{key_order};
-ghost use Rattle.apx_step.specs.Walk.{first_key, group_of, past_group, put, walked, told_of};
+ghost use Rattle.apx_step.specs.Walk.{first_key, group_of, past_group, put, walked, emitted_of};
 
 use crate::rules::apply;
 use apx_tuple::{Bag, Key, Kind, Short, State, Tuple};
@@ -79,7 +79,7 @@ fn keep_entry(
     }
 }
 
-/// Walks over the keys that came, from the least on: what is kept then, and what was told.
+/// Walks over the keys that came, from the least on: what is kept then, and what was emitted.
 ///
 /// `Large` comes only where what is kept then is too large for a state.
 pub(crate) fn walk(
@@ -91,21 +91,21 @@ pub(crate) fn walk(
 ) -> Result<(State, Vec<Tuple>), Short>
     requires { IsStrictlySortedBy key_order (keys_of start) }
     ensures state { IfOk result (λ r. r.0 ≡ walked kind.now start left.now right.now) }
-    ensures told { IfOk result (λ r. r.1.items ≡ told_of kind.now start left.now right.now) }
+    ensures emitted { IfOk result (λ r. r.1.items ≡ emitted_of kind.now start left.now right.now) }
     ensures large { result ≡ Err Short.Large → IsLarge pair_key (walked kind.now start left.now right.now) }
 {
     let mut state = start;
-    let mut told = Vec::new(alloc);
+    let mut emitted = Vec::new(alloc);
     let mut lefts = left.tuples();
     let mut rights = right.tuples();
     while let Some(key) = first_key(lefts, rights) {
         let (left_group, left_rest) = split_group(key, lefts);
         let (right_group, right_rest) = split_group(key, rights);
         let old = state.get(key);
-        let entry = apply(alloc, kind, key, old, left_group, right_group, &mut told)?;
+        let entry = apply(alloc, kind, key, old, left_group, right_group, &mut emitted)?;
         keep_entry(&mut state, key, old, entry)?;
         lefts = left_rest;
         rights = right_rest;
     }
-    Ok((state, told))
+    Ok((state, emitted))
 }

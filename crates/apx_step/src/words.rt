@@ -3,7 +3,7 @@ ghost use Rattle.std.specs.Prelude.{◌≡◌, ◌≤◌, ◌++◌, length, OnOk
 ghost use Rattle.apx_rules.specs.Rule.{words_of};
 ghost use Rattle.apx_step.specs.Words.{is_blank, first_word, past_word, unless_empty, with_value};
 
-use crate::rules::{key_of, tell};
+use crate::rules::{emit, key_of};
 use apx_tuple::{Key, Tuple};
 use std::alloc::{AllocError, Global};
 
@@ -27,35 +27,35 @@ fn split_word(bytes: &[u8]) -> (&[u8], &[u8])
     (bytes, &bytes[bytes.len()..])
 }
 
-/// Tells the word with the value, unless it is empty.
-fn tell_word(
+/// Emits the word with the value, unless it is empty.
+fn emit_word(
     alloc: Global,
     word: &[u8],
     value: i64,
-    told: &mut Vec<Tuple>,
+    emitted: &mut Vec<Tuple>,
 ) -> Result<(), AllocError>
     requires { length word.now ≤ 1024 }
-    ensures { OnOk result (told.new.items ≡ told.old.items ++ with_value value (unless_empty word.now)) }
+    ensures { OnOk result (emitted.new.items ≡ emitted.old.items ++ with_value value (unless_empty word.now)) }
 {
     if word.is_empty() {
         return Ok(());
     }
-    tell(&key_of(alloc, word)?, value, told)
+    emit(&key_of(alloc, word)?, value, emitted)
 }
 
-/// Tells each word of the key with the value.
-pub(crate) fn tell_words(
+/// Emits each word of the key with the value.
+pub(crate) fn emit_words(
     alloc: Global,
     key: &Key,
     value: i64,
-    told: &mut Vec<Tuple>,
+    emitted: &mut Vec<Tuple>,
 ) -> Result<(), AllocError>
-    ensures { OnOk result (told.new.items ≡ told.old.items ++ with_value value (words_of key.now)) }
+    ensures { OnOk result (emitted.new.items ≡ emitted.old.items ++ with_value value (words_of key.now)) }
 {
     let mut rest = key.bytes();
     while !rest.is_empty() {
         let (word, others) = split_word(rest);
-        tell_word(alloc, word, value, told)?;
+        emit_word(alloc, word, value, emitted)?;
         rest = others;
     }
     Ok(())

@@ -8,12 +8,12 @@ use Rattle.apx_load.specs.declared.stop.Stop.TheVariants.{Refused, CannotRead, S
 use Rattle.apx_load.specs.declared.refusal.Refusal.{Refusal}
 use Rattle.apx_load.specs.declared.words.Action.{Action}
 use Rattle.apx_load.specs.declared.words.Action.TheVariants.{Check, Sim}
-use Rattle.apx_load.specs.Refusals.{Told, IsApplicationRefusal, IsJob, IsRefusal, of_words, of_application, of_inputs}
-use Rattle.apx_load.proofs.Unique.{application-or-refusal, refusal-unique, job-or-refusal, job-unique}
-use Rattle.apx_pass.specs.Large.{IsLargeJob}
-use Rattle.apx_pass.specs.Pass.{Job}
+use Rattle.apx_load.specs.Refusals.{Told, IsApplicationRefusal, IsDataflow, IsRefusal, of_words, of_application, of_inputs}
+use Rattle.apx_load.proofs.Unique.{application-or-refusal, refusal-unique, dataflow-or-refusal, dataflow-unique}
+use Rattle.apx_pass.specs.Large.{IsLargeDataflow}
+use Rattle.apx_pass.specs.Pass.{Dataflow}
 use Rattle.apx_load.specs.Words.{command_of}
-use Rattle.apx_top.specs.Run.{HasRun, HasLeft, IsAccepted, IsSimStop}
+use Rattle.apx_top.specs.Run.{HasRun, HasLeft, IsAcceptedRun, IsSimStop}
 use Rattle.apx_top.specs.Plain.{HasChecked, IsCheckStop, IsAcceptedBy, of_check, of_sim, IsStop, IsEnd, HasRefused, IsComplete, HasDone, HasStopped, checked, ran, checking, running}
 
 module _ (words : List (List ℕ)) (told : Told) (name : List ℕ) where
@@ -47,8 +47,8 @@ module _ (words : List (List ℕ)) (told : Told) (name : List ℕ) where
     check-end command output_tells out_before out_after (Ok v) done is = λ t. let found = done.accepted t in of_check name found.0 command found.1
     check-end command output_tells out_before out_after (Err stop) done is = check-cause command stop is
 
-    job-of : command_of words ≡ Some (Sim, name) → (job : Job) → IsAccepted told name job → IsJob words told job
-    job-of command job accepted = record { name = name; command = command; application = accepted.application; inputs = accepted.inputs }
+    dataflow-of : command_of words ≡ Some (Sim, name) → (flow : Dataflow) → IsAcceptedRun told name flow → IsDataflow words told flow
+    dataflow-of command flow accepted = record { name = name; command = command; application = accepted.application; inputs = accepted.inputs }
 
     sim-cause : command_of words ≡ Some (Sim, name) → (stop : Stop) → IsSimStop tells told name folder store output stop → IsStop words tells told folder store output stop
     sim-cause command (Refused refusal) is = λ t. elim (is t) [
@@ -56,20 +56,20 @@ module _ (words : List (List ℕ)) (told : Told) (name : List ℕ) where
       | inr inputs ↦ of_inputs name inputs.0.nodes refusal command inputs.1 inputs.2
     ]
     sim-cause command (CannotRead file) is = is
-    sim-cause command StoreFailed is = (is.0, λ t. let found = is.1 t in of_sim found.0 (job-of command found.0 found.1))
-    sim-cause command OutputFailed is = (is.0, λ t. let found = is.1 t in of_sim found.0 (job-of command found.0 found.1))
+    sim-cause command StoreFailed is = (is.0, λ t. let found = is.1 t in of_sim found.0 (dataflow-of command found.0 found.1))
+    sim-cause command OutputFailed is = (is.0, λ t. let found = is.1 t in of_sim found.0 (dataflow-of command found.0 found.1))
     sim-cause command Memory is = tt
-    sim-cause command Large is = λ t. let found = is t in (found.0, job-of command found.0 found.1, found.2)
+    sim-cause command Large is = λ t. let found = is t in (found.0, dataflow-of command found.0 found.1, found.2)
 
-    pub sim-end : command_of words ≡ Some (Sim, name) → (r : Result ⊤ Stop) → (IsTrue tells → OnOk r ((job : Job) × IsAccepted told name job)) → IfErr r (IsSimStop tells told name folder store output) → IsEnd words tells told folder store output r
-    sim-end command (Ok v) accepted is = λ t. let found = accepted t in of_sim found.0 (job-of command found.0 found.1)
+    pub sim-end : command_of words ≡ Some (Sim, name) → (r : Result ⊤ Stop) → (IsTrue tells → OnOk r ((flow : Dataflow) × IsAcceptedRun told name flow)) → IfErr r (IsSimStop tells told name folder store output) → IsEnd words tells told folder store output r
+    sim-end command (Ok v) accepted is = λ t. let found = accepted t in of_sim found.0 (dataflow-of command found.0 found.1)
     sim-end command (Err stop) accepted is = sim-cause command stop is
 
 -- ---- what the cause of an end says of refused and of accepted words and files
 
 module _ (words : List (List ℕ)) (told : Told) where
   apart : (r : Refusal) → IsAcceptedBy words told → IsRefusal words told r → ⊥
-  apart r (of_sim job is) refused = job-or-refusal words told job r is refused
+  apart r (of_sim flow is) refused = dataflow-or-refusal words told flow r is refused
   apart r (of_check name nodes command is) (of_words none) = cc
   apart r (of_check name nodes command is) (of_application action file refusal other refused) =
       let same : Some (Check, name) ≡ Some (action, file) = sym command ∙ other in
@@ -97,13 +97,13 @@ module _ (words : List (List ℕ)) (told : Told) where
     refused-of (Err StoreFailed) is r refused = apart r (is.1 t) refused
     refused-of (Err OutputFailed) is r refused = apart r (is.1 t) refused
     refused-of (Err Memory) is r refused = tt
-    refused-of (Err Large) is r refused = let found = is t in job-or-refusal words told found.0 r found.1 refused
+    refused-of (Err Large) is r refused = let found = is t in dataflow-or-refusal words told found.0 r found.1 refused
 
-    pub complete-of : (end : Result ⊤ Stop) → IsEnd words tells told folder store output end → (job : Job) → IsJob words told job → (folder → ⊥) → (store → ⊥) → (output → ⊥) → IsComplete job end
-    complete-of (Ok v) is job accepted a b c = tt
-    complete-of (Err (Refused found)) is job accepted a b c = job-or-refusal words told job found accepted (is t)
-    complete-of (Err (CannotRead file)) is job accepted a b c = a is
-    complete-of (Err StoreFailed) is job accepted a b c = b is.0
-    complete-of (Err OutputFailed) is job accepted a b c = c is.0
-    complete-of (Err Memory) is job accepted a b c = tt
-    complete-of (Err Large) is job accepted a b c = let found = is t in subst IsLargeJob (job-unique words told found.0 job found.1 accepted) found.2
+    pub complete-of : (end : Result ⊤ Stop) → IsEnd words tells told folder store output end → (flow : Dataflow) → IsDataflow words told flow → (folder → ⊥) → (store → ⊥) → (output → ⊥) → IsComplete flow end
+    complete-of (Ok v) is flow accepted a b c = tt
+    complete-of (Err (Refused found)) is flow accepted a b c = dataflow-or-refusal words told flow found accepted (is t)
+    complete-of (Err (CannotRead file)) is flow accepted a b c = a is
+    complete-of (Err StoreFailed) is flow accepted a b c = b is.0
+    complete-of (Err OutputFailed) is flow accepted a b c = c is.0
+    complete-of (Err Memory) is flow accepted a b c = tt
+    complete-of (Err Large) is flow accepted a b c = let found = is t in subst IsLargeDataflow (dataflow-unique words told found.0 flow found.1 accepted) found.2

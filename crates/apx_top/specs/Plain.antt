@@ -3,14 +3,14 @@ use Rattle.std.specs.Prelude.{◌≡◌, ℕ, ◌⊎◌, Bool, IsTrue, List, [],
 use Rattle.apx_tuple.specs.declared.tuple.Tuple.{Tuple}
 use Rattle.apx_device.specs.Out.{GotFront}
 use Rattle.apx_pass.specs.Graph.{Node}
-use Rattle.apx_pass.specs.Large.{IsLargeJob}
-use Rattle.apx_pass.specs.Pass.{Job}
+use Rattle.apx_pass.specs.Large.{IsLargeDataflow}
+use Rattle.apx_pass.specs.Pass.{Dataflow}
 use Rattle.apx_load.specs.declared.stop.Stop.{Stop}
 use Rattle.apx_load.specs.declared.stop.Stop.TheVariants.{Refused, CannotRead, StoreFailed, OutputFailed, Memory, Large}
 use Rattle.apx_load.specs.declared.refusal.Refusal.{Refusal}
 use Rattle.apx_load.specs.declared.refusal.Refusal.TheVariants.{NotACommand}
 use Rattle.apx_load.specs.declared.words.Action.TheVariants.{Check, Sim}
-use Rattle.apx_load.specs.Refusals.{Told, IsApplication, IsApplicationRefusal, IsRefusal, IsJob}
+use Rattle.apx_load.specs.Refusals.{Told, IsApplication, IsApplicationRefusal, IsRefusal, IsDataflow}
 use Rattle.apx_load.specs.Words.{command_of}
 use Rattle.apx_top.specs.Lines.{status_of, line_of}
 use Rattle.apx_top.specs.Run.{HasRun, HasLeft}
@@ -36,10 +36,10 @@ IsCheckStop tells told name folder output Large = ⊥
 -- the words and the files that they need are accepted
 pub data IsAcceptedBy (words : List (List ℕ)) (told : Told) : Type 0 where
   of_check : (name : List ℕ) (nodes : List Node) → command_of words ≡ Some (Check, name) → IsApplication told name nodes → IsAcceptedBy words told
-  of_sim : (job : Job) → IsJob words told job → IsAcceptedBy words told
+  of_sim : (flow : Dataflow) → IsDataflow words told flow → IsAcceptedBy words told
 
 -- The cause of a stop: the first refusal of the words and files, where the folder tells its files; a fault
--- of the folder, the store or the output, which then has counted it; a size of the job; or want of memory.
+-- of the folder, the store or the output, which then has counted it; a size of the dataflow; or want of memory.
 -- The store and the output fail only after the words and files were accepted.
 abbrev pub IsStop : List (List ℕ) → Bool → Told → Type 0 → Type 0 → Type 0 → Stop → Type 0
 IsStop words tells told folder store output (Refused refusal) = IsTrue tells → IsRefusal words told refusal
@@ -47,7 +47,7 @@ IsStop words tells told folder store output (CannotRead name) = folder
 IsStop words tells told folder store output StoreFailed = store × (IsTrue tells → IsAcceptedBy words told)
 IsStop words tells told folder store output OutputFailed = output × (IsTrue tells → IsAcceptedBy words told)
 IsStop words tells told folder store output Memory = ⊤
-IsStop words tells told folder store output Large = IsTrue tells → (job : Job) × IsJob words told job × IsLargeJob job
+IsStop words tells told folder store output Large = IsTrue tells → (flow : Dataflow) × IsDataflow words told flow × IsLargeDataflow flow
 
 -- an end has its cause: accepted words and files, or that of the stop
 abbrev pub IsEnd : List (List ℕ) → Bool → Told → Type 0 → Type 0 → Type 0 → Result ⊤ Stop → Type 0
@@ -64,15 +64,15 @@ HasRefused folder refusal (Err OutputFailed) = ⊥
 HasRefused folder refusal (Err Memory) = ⊤
 HasRefused folder refusal (Err Large) = ⊥
 
--- how it ends where this job is accepted and no device fails: it is done, too large, or short of memory
-abbrev pub IsComplete : Job → Result ⊤ Stop → Type 0
-IsComplete job (Ok _) = ⊤
-IsComplete job (Err (Refused refusal)) = ⊥
-IsComplete job (Err (CannotRead name)) = ⊥
-IsComplete job (Err StoreFailed) = ⊥
-IsComplete job (Err OutputFailed) = ⊥
-IsComplete job (Err Memory) = ⊤
-IsComplete job (Err Large) = IsLargeJob job
+-- how it ends where this dataflow is accepted and no device fails: it is done, too large, or short of memory
+abbrev pub IsComplete : Dataflow → Result ⊤ Stop → Type 0
+IsComplete flow (Ok _) = ⊤
+IsComplete flow (Err (Refused refusal)) = ⊥
+IsComplete flow (Err (CannotRead name)) = ⊥
+IsComplete flow (Err StoreFailed) = ⊥
+IsComplete flow (Err OutputFailed) = ⊥
+IsComplete flow (Err Memory) = ⊤
+IsComplete flow (Err Large) = IsLargeDataflow flow
 
 -- all that the words ask for is done
 pub data HasDone (words : List (List ℕ)) (files_tell : Bool) (told : Told) (tells : Bool) (store_before store_after : List (List Tuple)) (out_before out_after : List ℕ) : Type 0 where

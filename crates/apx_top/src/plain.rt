@@ -2,9 +2,9 @@
 ghost use Rattle.std.specs.Prelude.{◌≡◌, ◌≤◌, ◌++◌, IsTrue, IsErr, IfErr, IfOk, OnOk, codes, map, string_bytes};
 ghost use Rattle.apx_device.specs.Cause.{Rose};
 ghost use Rattle.apx_device.specs.Out.{GotFront};
-ghost use Rattle.apx_pass.specs.Pass.{Job};
+ghost use Rattle.apx_pass.specs.Pass.{Dataflow};
 ghost use Rattle.apx_load.specs.declared.refusal.Refusal.{Refusal};
-ghost use Rattle.apx_load.specs.Refusals.{IsRefusal, IsJob};
+ghost use Rattle.apx_load.specs.Refusals.{IsRefusal, IsDataflow};
 ghost use Rattle.apx_top.specs.Plain.{IsCheckStop, HasChecked, IsEnd, HasRefused, IsComplete, HasDone, HasStopped, status_after, line_after, HasSaid};
 
 use crate::say::{say, status};
@@ -93,9 +93,9 @@ pub fn apex_plain<F: Folder, K: Keeper, O: Out, E: Out>(
         IfErr result.end (HasStopped (map string_bytes words.now) F.tells (F.told files.old) O.tells (K.stored devices.keeper) (K.stored result.devices.keeper) (O.written out.old) (O.written out.new)) }
     ensures end { IsEnd (map string_bytes words.now) F.tells (F.told files.old) (Rose (F.faults files.old) (F.faults files.new)) (Rose (K.faults devices.keeper) (K.faults result.devices.keeper)) (Rose (O.faults out.old) (O.faults out.new)) result.end }
     ensures refused { IsTrue F.tells → (refusal : Refusal) → IsRefusal (map string_bytes words.now) (F.told files.old) refusal → HasRefused (Rose (F.faults files.old) (F.faults files.new)) refusal result.end }
-    ensures complete { IsTrue F.tells → (job : Job) → IsJob (map string_bytes words.now) (F.told files.old) job →
+    ensures complete { IsTrue F.tells → (flow : Dataflow) → IsDataflow (map string_bytes words.now) (F.told files.old) flow →
         (Rose (F.faults files.old) (F.faults files.new) → ⊥) → (Rose (K.faults devices.keeper) (K.faults result.devices.keeper) → ⊥) → (Rose (O.faults out.old) (O.faults out.new) → ⊥) →
-        IsComplete job result.end }
+        IsComplete flow result.end }
     ensures status { result.status ≡ status_after result.end }
     ensures said { IsTrue E.tells → HasSaid (line_after result.end) (Rose (E.faults err.old) (E.faults err.new)) (E.written err.old) (E.written err.new) }
 {

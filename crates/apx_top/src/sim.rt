@@ -1,8 +1,8 @@
 //! A run of an application on one thread.
 ghost use Rattle.std.specs.Prelude.{◌≡◌, ◌≤◌, IsTrue, IfErr, OnOk};
 ghost use Rattle.apx_device.specs.Cause.{Rose};
-ghost use Rattle.apx_pass.specs.Pass.{Job};
-ghost use Rattle.apx_top.specs.Run.{HasLeft, HasRun, IsAccepted, IsSimStop};
+ghost use Rattle.apx_pass.specs.Pass.{Dataflow};
+ghost use Rattle.apx_top.specs.Run.{HasLeft, HasRun, IsAcceptedRun, IsSimStop};
 
 use crate::print::print_all;
 use crate::store::store_all;
@@ -19,7 +19,7 @@ pub(crate) fn sim<F: Folder, K: Keeper, O: Out>(
     out: &mut O,
 ) -> Result<(), Stop>
     requires { IsTrue (K.sound keeper.old) }
-    ensures accepted { IsTrue F.tells → OnOk result ((job : Job) × IsAccepted (F.told files.old) name.now job) }
+    ensures accepted { IsTrue F.tells → OnOk result ((flow : Dataflow) × IsAcceptedRun (F.told files.old) name.now flow) }
     ensures done { IsTrue K.tells →
         OnOk result (HasRun F.tells (F.told files.old) name.now O.tells (K.stored keeper.old) (K.stored keeper.new) (O.written out.old) (O.written out.new)) }
     ensures left { IsTrue K.tells →

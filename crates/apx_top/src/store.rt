@@ -2,7 +2,7 @@
 ghost use Rattle.std.specs.Prelude.{◌≡◌, ◌<◌, ◌≤◌, ◌+◌, ◌++◌, ◌∷◌, [], suc, IsTrue, IfOk, IfErr, OnOk};
 ghost use Rattle.apx_device.specs.Cause.{Rose};
 ghost use Rattle.apx_pass.specs.Pass.{windows_of, rows_at, sink_of, mean};
-ghost use Rattle.apx_mean.specs.Passing.{job_of};
+ghost use Rattle.apx_mean.specs.Passing.{dataflow_of};
 ghost use Rattle.apx_top.specs.Store.{HoldsPrefix, IsStoreStop, LeftByCommit, IsCommitStop};
 
 use apx_dag::Dag;
@@ -33,8 +33,8 @@ fn commit<K: Keeper>(keeper: &mut K, window: u32, rows: &Bag) -> Result<(), Stop
 /// The next window of a pass.
 fn next_window<'a>(alloc: Global, pass: OnePass<'a>) -> Result<(OnePass<'a>, Bag), Stop>
     requires { pass.passed < 20000 }
-    ensures ok { IfOk result (λ r. (r.0 ≡ record { job = pass.entry.job; passed = pass.entry.passed + 1 }) × (r.1 ≡ rows_at pass.entry.job (suc pass.entry.passed) (sink_of pass.entry.job.nodes))) }
-    ensures stop { IfErr result (IsStoreStop pass.entry.job ⊥) }
+    ensures ok { IfOk result (λ r. (r.0 ≡ record { flow = pass.entry.flow; passed = pass.entry.passed + 1 }) × (r.1 ≡ rows_at pass.entry.flow (suc pass.entry.passed) (sink_of pass.entry.flow.nodes))) }
+    ensures stop { IfErr result (IsStoreStop pass.entry.flow ⊥) }
 {
     match pass.next(alloc) {
         Ok(passed) => Ok(passed),
@@ -57,12 +57,12 @@ pub(crate) fn store_all<K: Keeper>(
     requires sound { IsTrue (K.sound keeper.old) }
     requires windows { windows ≡ windows_of inputs.now }
     requires few { windows ≤ 20000 }
-    ensures prefix { IsTrue K.tells → HoldsPrefix (job_of dag.now inputs.now) (K.stored keeper.old) → HoldsPrefix (job_of dag.now inputs.now) (K.stored keeper.new) }
-    ensures all { IsTrue K.tells → HoldsPrefix (job_of dag.now inputs.now) (K.stored keeper.old) → OnOk result (K.stored keeper.new ≡ mean (job_of dag.now inputs.now)) }
+    ensures prefix { IsTrue K.tells → HoldsPrefix (dataflow_of dag.now inputs.now) (K.stored keeper.old) → HoldsPrefix (dataflow_of dag.now inputs.now) (K.stored keeper.new) }
+    ensures all { IsTrue K.tells → HoldsPrefix (dataflow_of dag.now inputs.now) (K.stored keeper.old) → OnOk result (K.stored keeper.new ≡ mean (dataflow_of dag.now inputs.now)) }
     ensures reached { OnOk result (windows ≤ K.last keeper.new) }
     ensures sound { OnOk result (IsTrue (K.sound keeper.new)) }
     ensures later { K.faults keeper.old ≤ K.faults keeper.new }
-    ensures stop { IfErr result (IsStoreStop (job_of dag.now inputs.now) (Rose (K.faults keeper.old) (K.faults keeper.new))) }
+    ensures stop { IfErr result (IsStoreStop (dataflow_of dag.now inputs.now) (Rose (K.faults keeper.old) (K.faults keeper.new))) }
 {
     let first = keeper.last();
     let mut pass = match OnePass::new(alloc, dag, inputs) {

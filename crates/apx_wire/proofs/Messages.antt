@@ -13,7 +13,7 @@ use Rattle.apx_wire.specs.declared.fault.WireFault.TheVariants.{BadType, BadKey,
 use Rattle.apx_wire.specs.declared.message.Message.{Message}
 use Rattle.apx_wire.specs.declared.message.Message.TheVariants.{Payload, Begin, End, Checkpoint, Reset, EndOfStream}
 use Rattle.apx_wire.specs.Spelling.{AreBytes, IsTuple, IsMessage, tuple_spelling, spelling, BeginsWith}
-use Rattle.apx_wire.specs.Judging.{number_in, key_length_in, key_in, tuple_in, payload_judged, field_in, judged, Gives}
+use Rattle.apx_wire.specs.Judging.{number_in, key_length_in, key_in, tuple_in, payload_judged, field_in, judged, GivesMessage}
 use Rattle.std.specs.Prelude.{IfOk, IfSome}
 use Rattle.apx_wire.proofs.Fields.{IsWide, wide16, wide32, wide64, AreBytes-drop, AreBytes-take, front-back, front-below, field_in-again, field_in-some}
 use Rattle.apx_wire.proofs.Payloads.{payload_judged-whole}
@@ -203,13 +203,13 @@ judged_again place (Reset second) rest fits = number_again w32 (2 ^ 32) wide32 5
 judged_again place EndOfStream rest fits = refl
 
 -- the same of what a reader returned
-pub is_found : (r : Judgement) (place : ℕ) (bytes : List ℕ) → AreBytes bytes → Gives r (judged place bytes) → IfOk r (λ found. IfSome found (λ x. BeginsWith bytes x.0 x.1))
+pub is_found : (r : Judgement) (place : ℕ) (bytes : List ℕ) → AreBytes bytes → GivesMessage r (judged place bytes) → IfOk r (λ found. IfSome found (λ x. BeginsWith bytes x.0 x.1))
 is_found (Ok None) place bytes are given = tt
 is_found (Ok (Some x)) place bytes are given = judged_takes place bytes x.0 x.1 are given
 is_found (Err fault) place bytes are given = tt
 
-pub is_only : (r : Judgement) (place : ℕ) (bytes : List ℕ) (m : Message) (rest : List ℕ) → IsMessage m → bytes ≡ spelling m ++ rest → Gives r (judged place bytes) → Gives r (read m (length (spelling m)))
-is_only r place bytes m rest fits e given = subst (Gives r) (ap (judged place) e ∙ judged_again place m rest fits) given
+pub is_only : (r : Judgement) (place : ℕ) (bytes : List ℕ) (m : Message) (rest : List ℕ) → IsMessage m → bytes ≡ spelling m ++ rest → GivesMessage r (judged place bytes) → GivesMessage r (read m (length (spelling m)))
+is_only r place bytes m rest fits e given = subst (GivesMessage r) (ap (judged place) e ∙ judged_again place m rest fits) given
 
 -- ---- no spelling begins another
 

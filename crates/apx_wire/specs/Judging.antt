@@ -61,6 +61,6 @@ UnlessMemory (BadNumber _) p = p
 UnlessMemory (BadOrder _) p = p
 
 -- what a reader returned is what the bytes are judged to be, unless memory ran out
-abbrev pub Gives : {X : Type 0} → Result X WireFault → Result X WireFault → Type 0
-Gives (Ok x) judgement = judgement ≡ Ok x
-Gives (Err fault) judgement = UnlessMemory fault (judgement ≡ Err fault)
+abbrev pub GivesMessage : {X : Type 0} → Result X WireFault → Result X WireFault → Type 0
+GivesMessage (Ok x) judgement = judgement ≡ Ok x
+GivesMessage (Err fault) judgement = UnlessMemory fault (judgement ≡ Err fault)

@@ -3,7 +3,7 @@ ghost use Rattle.std.specs.Prelude.{◌≡◌, ◌≤◌, ◌++◌, ℕ, List, l
 ghost use Rattle.std.specs.Int.{w32, w64};
 ghost use Rattle.apx_wire.specs.declared.message.Message.{Message};
 ghost use Rattle.apx_wire.specs.Spelling.{IsMessage, BeginsWith, spelling};
-ghost use Rattle.apx_wire.specs.Judging.{judged, payload_judged, field_in, Gives};
+ghost use Rattle.apx_wire.specs.Judging.{judged, payload_judged, field_in, GivesMessage};
 
 use crate::fault::WireFault;
 use crate::message::Message;
@@ -19,18 +19,18 @@ pub fn first_message(
     place: u64,
     bytes: &[u8],
 ) -> Result<Option<(Message, usize)>, WireFault>
-    ensures exact { Gives result (judged place bytes.now) }
+    ensures exact { GivesMessage result (judged place bytes.now) }
 
     // What is read is spelled so, and what is spelled so is read, whatever follows it.
     ensures found { IfOk result (λ found. IfSome found (λ x. BeginsWith bytes.now x.0 x.1)) }
-    ensures only { (m : Message) (rest : List ℕ) → IsMessage m → bytes.now ≡ spelling m ++ rest → Gives result (Ok (Some (m, length (spelling m)))) }
+    ensures only { (m : Message) (rest : List ℕ) → IsMessage m → bytes.now ≡ spelling m ++ rest → GivesMessage result (Ok (Some (m, length (spelling m)))) }
 {
     judge(alloc, place, bytes)
 }
 
 #[tactic(auto, unfolding(crate::specs::Judging::judged))]
 fn judge(alloc: Global, place: u64, bytes: &[u8]) -> Result<Option<(Message, usize)>, WireFault>
-    ensures { Gives result (judged place bytes.now) }
+    ensures { GivesMessage result (judged place bytes.now) }
 {
     match bytes {
         [] => Ok(None),
@@ -71,7 +71,7 @@ fn first_payload(
     place: u64,
     bytes: &[u8],
 ) -> Result<Option<(Message, usize)>, WireFault>
-    ensures { Gives result (payload_judged place bytes.now) }
+    ensures { GivesMessage result (payload_judged place bytes.now) }
 {
     if bytes.len() < 6 {
         return Ok(None);

@@ -1,7 +1,7 @@
 use Rattle.std.proofs.Common.{Err, ap, ◌∙◌}
 use Rattle.std.proofs.lemmas.Result.{err_from_is_err_and}
 use Rattle.apx_pass.specs.Groups.{first_refused, input_of}
-use Rattle.apx_input.proofs.Telling.{only_refusal, none_and_some}
+use Rattle.apx_input.proofs.Reporting.{only_refusal, none_and_some}
 use Rattle.apx_input.proofs.reading.windows.Goals as goal
 
 pub returns-in_err-starts-clause-refused : goal.returns-in_err-starts-clause-refused

@@ -3,4 +3,4 @@ use Rattle.apx_step.specs.Walk.{pair_tuple}
 use Rattle.apx_step.proofs.steps.all_kept.Given as goal
 
 abbrev pub invariant-loop-key : goal.invariant-loop-key
-invariant-loop-key l = l.told.items ++ map pair_tuple l.key-iterator ≡ map pair_tuple l.fn.state
+invariant-loop-key l = l.emitted.items ++ map pair_tuple l.key-iterator ≡ map pair_tuple l.fn.state

@@ -20,7 +20,7 @@ returns-then-closes-clause-ok c =
 pub returns-in_err-of-clause-large : goal.returns-in_err-of-clause-large
 returns-in_err-of-clause-large c = λ h.
     let p = err_from_is_err_and c.from_residual-in_err-of.result c.from_residual-in_err-of.ensures.1 in
-    inr (open-large _ _ _ _ c.in_ok-kept.kept _ _ _ c.in_ok-start.ensures.state.ascends c.in_ok-start.ensures.start (sym c.closes.ensures ∙ c.if-closes.false) c.in_ok-kept.ensures.told (c.in_err-of.ensures.large (let is = p.1 in let gives = p.2 in cc)))
+    inr (open-large _ _ _ _ c.in_ok-kept.kept _ _ _ c.in_ok-start.ensures.state.ascends c.in_ok-start.ensures.start (sym c.closes.ensures ∙ c.if-closes.false) c.in_ok-kept.ensures.emitted (c.in_err-of.ensures.large (let is = p.1 in let gives = p.2 in cc)))
 
 pub returns-clause-ok : goal.returns-clause-ok
-returns-clause-ok c = open-ok _ _ _ _ _ _ _ _ c.in_ok-start.ensures.state.ascends c.in_ok-start.ensures.start _ (sym c.closes.ensures ∙ c.if-closes.false) (c.kept.view_is ∙ c.in_ok-kept.ensures.state) c.in_ok-kept.ensures.told c.in_ok-of.ensures.ok
+returns-clause-ok c = open-ok _ _ _ _ _ _ _ _ c.in_ok-start.ensures.state.ascends c.in_ok-start.ensures.start _ (sym c.closes.ensures ∙ c.if-closes.false) (c.kept.view_is ∙ c.in_ok-kept.ensures.state) c.in_ok-kept.ensures.emitted c.in_ok-of.ensures.ok

@@ -9,7 +9,7 @@ pub loop-key-init : goal.loop-key-init
 loop-key-init c =
     let start = walking-start c.args.kind.now c.args.start c.args.left.now c.args.right.now c.requires (keys-ascend _ c.tuples-lefts.ensures.bag.ascends) (keys-ascend _ c.tuples-rights.ensures.bag.ascends) in
     subst (λ (x : List Tuple × List Tuple × List Tuple). IsWalking c.args.kind.now c.args.start c.args.left.now c.args.right.now c.args.start x.0 x.1 x.2)
-    (λ i. (sym c.new-told.ensures.items i, sym c.tuples-lefts.ensures.tuples i, sym c.tuples-rights.ensures.tuples i)) start
+    (λ i. (sym c.new-emitted.ensures.items i, sym c.tuples-lefts.ensures.tuples i, sym c.tuples-rights.ensures.tuples i)) start
 
 pub returns-in_err-keep_entry-clause-large : goal.returns-in_err-keep_entry-clause-large
 returns-in_err-keep_entry-clause-large c = λ h.
@@ -26,10 +26,10 @@ pub loop-key-preserved : goal.loop-key-preserved
 loop-key-preserved c =
     walking-next _ _ _ _ _ _ _ _ c.loop-key.invariant c.in-Some.key.now c.in-Some.ensures c.in_ok-entry.entry _ _ _ _ _ _ _
     c.split_group.ensures.group c.split_group-in-Some.ensures.group c.split_group.ensures.rest c.split_group-in-Some.ensures.rest c.get-old.ensures
-    c.in_ok-entry.ensures.entry c.in_ok-entry.ensures.told c.in_ok-keep_entry.ensures.ok
+    c.in_ok-entry.ensures.entry c.in_ok-entry.ensures.emitted c.in_ok-keep_entry.ensures.ok
 
 pub returns-clause-state : goal.returns-clause-state
 returns-clause-state c = (walking-end _ _ _ _ _ _ _ _ c.loop-key.invariant c.in_default.ensures).0
 
-pub returns-clause-told : goal.returns-clause-told
-returns-clause-told c = (walking-end _ _ _ _ _ _ _ _ c.loop-key.invariant c.in_default.ensures).1
+pub returns-clause-emitted : goal.returns-clause-emitted
+returns-clause-emitted c = (walking-end _ _ _ _ _ _ _ _ c.loop-key.invariant c.in_default.ensures).1

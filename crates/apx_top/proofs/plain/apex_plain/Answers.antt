@@ -5,4 +5,4 @@ pub returns-clause-refused : goal.returns-clause-refused
 returns-clause-refused g c = λ t refusal refused. refused-of _ _ g.F.Folder.tells _ _ _ t c.act-end.result c.act-end.ensures.end refusal refused
 
 pub returns-clause-complete : goal.returns-clause-complete
-returns-clause-complete g c = λ t job accepted folder store output. complete-of _ _ g.F.Folder.tells _ _ _ t c.act-end.result c.act-end.ensures.end job accepted folder store output
+returns-clause-complete g c = λ t flow accepted folder store output. complete-of _ _ g.F.Folder.tells _ _ _ t c.act-end.result c.act-end.ensures.end flow accepted folder store output

@@ -1,5 +1,5 @@
 use Rattle.std.proofs.Common.{◌≡◌, ◌≤◌, max, IsTrue}
-use Rattle.apx_mean.specs.Passing.{job_of}
+use Rattle.apx_mean.specs.Passing.{dataflow_of}
 use Rattle.apx_top.specs.Loop.{HoldsFirst}
 use Rattle.apx_top.specs.Store.{HoldsPrefix}
 use Rattle.apx_top.proofs.store.store_all.Given as goal
@@ -8,8 +8,8 @@ abbrev pub invariant-loop-done : goal.invariant-loop-done
 invariant-loop-done g l = record {
   sound : IsTrue (g.K.Keeper.sound l.keeper);
   last : g.K.Keeper.last l.keeper ≡ max l.first l.done;
-  job : l.pass.job ≡ job_of l.dag l.inputs;
+  flow : l.pass.flow ≡ dataflow_of l.dag l.inputs;
   passed : l.pass.passed ≡ l.done;
-  holds : IsTrue g.K.Keeper.tells → HoldsPrefix (job_of l.dag l.inputs) (g.K.Keeper.stored l.initial.keeper) → HoldsFirst (job_of l.dag l.inputs) (g.K.Keeper.last l.keeper) (g.K.Keeper.stored l.keeper);
+  holds : IsTrue g.K.Keeper.tells → HoldsPrefix (dataflow_of l.dag l.inputs) (g.K.Keeper.stored l.initial.keeper) → HoldsFirst (dataflow_of l.dag l.inputs) (g.K.Keeper.last l.keeper) (g.K.Keeper.stored l.keeper);
   later : g.K.Keeper.faults l.initial.keeper ≤ g.K.Keeper.faults l.keeper;
 }

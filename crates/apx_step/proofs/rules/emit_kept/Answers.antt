@@ -3,8 +3,8 @@ use mir.Val.{SFits}
 use Rattle.std.proofs.lemmas.Grind.{common_steps}
 use Rattle.std.proofs.lemmas.Int.{to_z-of_z}
 use Rattle.apx_step.proofs.Fronts.{passed-more}
-use Rattle.apx_step.proofs.rules.tell_kept.Goals as goal
-use Rattle.apx_step.proofs.rules.tell_kept.Goals.{then-is_within+in_ok-tell, else-is_within}
+use Rattle.apx_step.proofs.rules.emit_kept.Goals as goal
+use Rattle.apx_step.proofs.rules.emit_kept.Goals.{then-is_within+in_ok-emit, else-is_within}
 
 pub loop-tuple-preserved : goal.loop-tuple-preserved
 loop-tuple-preserved c =
@@ -16,7 +16,7 @@ loop-tuple-preserved c =
     let pass : test c.tuple-item.result.value ≡ c.is_within.result = sym (simp (min, max, value) at c.is_within.ensures) in
     let more = passed-more test c.args.key.now c.args.tuples.now c.loop-tuple.tuple-index c.tuple-item.result c.is_within.result c.loop-tuple-test.true c.tuple-item.is pass in
     simp (min, max) (elim c.if-is_within.branch [
-      | then-is_within+in_ok-tell w ↦ grind (arith, common_steps, more, simp (min, max) at c.loop-tuple.invariant, value)
+      | then-is_within+in_ok-emit w ↦ grind (arith, common_steps, more, simp (min, max) at c.loop-tuple.invariant, value)
       | else-is_within w ↦ grind (arith, common_steps, more, simp (min, max) at c.loop-tuple.invariant)
     ])
 

@@ -1,7 +1,7 @@
 use Rattle.std.proofs.Common.{◌≡◌, arith, to_z, of_z, w64}
 use Rattle.std.proofs.lemmas.Grind.{common_steps}
 use Rattle.std.proofs.lemmas.Int.{to_z-of_z}
-use Rattle.apx_step.proofs.rules.tell_scaled.Goals as goal
+use Rattle.apx_step.proofs.rules.emit_scaled.Goals as goal
 
 pub loop-tuple-preserved : goal.loop-tuple-preserved
 loop-tuple-preserved c =

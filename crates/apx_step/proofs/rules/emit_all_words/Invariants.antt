@@ -1,7 +1,7 @@
 use Rattle.std.proofs.Common.{◌≡◌, ◌++◌, take}
 use Rattle.apx_rules.specs.Rule.{words_rule}
 use Rattle.apx_step.specs.Walk.{values}
-use Rattle.apx_step.proofs.rules.tell_all_words.Given as goal
+use Rattle.apx_step.proofs.rules.emit_all_words.Given as goal
 
 abbrev pub invariant-loop-tuple : goal.invariant-loop-tuple
-invariant-loop-tuple l = l.told.items ≡ l.initial.told.items ++ (words_rule l.key (values (take l.tuple-index l.tuples))).told
+invariant-loop-tuple l = l.emitted.items ≡ l.initial.emitted.items ++ (words_rule l.key (values (take l.tuple-index l.tuples))).emitted
