@@ -7,6 +7,7 @@ use Rattle.apx_dag.specs.declared.refusal.AppRefusal.TheVariants.{Refused, Memor
 abbrev pub Checked : Type 0
 Checked = Result ⊤ (ℕ × List ℕ)
 
+-- a check after another one that refuses nothing
 infixl 10 ◌>>=◌
 abbrev pub ◌>>=◌ : Checked → (⊤ → Checked) → Checked
 (Ok x) >>= f = f x
@@ -22,6 +23,7 @@ abbrev pub Fails : AppRefusal → Checked → Type 0
 Fails Memory checked = Unit {0}
 Fails (Refused code place) checked = checked ≡ Err (code, place)
 
+-- what a function returned is what the checks give, unless memory ran out
 abbrev pub Gives : Result ⊤ AppRefusal → Checked → Type 0
 Gives (Ok x) checked = checked ≡ Ok tt
 Gives (Err e) checked = Fails e checked

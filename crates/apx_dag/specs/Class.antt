@@ -23,6 +23,7 @@ class_of name =
     if bytes_eq name (codes "enrich") then Some Enrich else
     if bytes_eq name (codes "store") then Some Store else None
 
+-- whether a class has an output port
 abbrev pub has_output : Class → Bool
 has_output Store = false
 has_output _ = true
@@ -34,6 +35,7 @@ is_end Pairs = true
 is_end Store = true
 is_end _ = false
 
+-- the name of its first input port, if it has one
 abbrev pub left_port : Class → Option (List ℕ)
 left_port Lines = None
 left_port Pairs = None
@@ -41,6 +43,7 @@ left_port Match = Some (codes "left")
 left_port Enrich = Some (codes "left")
 left_port _ = Some (codes "input")
 
+-- the name of its second input port, if it has one
 abbrev pub right_port : Class → Option (List ℕ)
 right_port Match = Some (codes "right")
 right_port Enrich = Some (codes "right")

@@ -6,12 +6,15 @@ use Rattle.apx_dag.specs.Order.{IsLinkOrder}
 use Rattle.apx_dag.specs.Graph.{sources_in}
 use Rattle.apx_dag.specs.Valid.{IsGraph}
 
+-- the operators
 abbrev pub nodes_in : List (Vec ℕ × Node) → List Node
 nodes_in entries = map (λ e. e.1) entries
 
+-- the names under which they stand
 abbrev pub key_texts : List (Vec ℕ × Node) → List (List ℕ)
 key_texts entries = map (λ e. e.0.items) entries
 
+-- their own names
 abbrev pub node_names : List (Vec ℕ × Node) → List (List ℕ)
 node_names entries = map (λ e. e.1.name) entries
 

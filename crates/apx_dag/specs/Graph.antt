@@ -25,6 +25,7 @@ node_by i o link = record {
   app_windows = unwrap_or (within 1 20000 o.app_windows) 1;
 }
 
+-- operator number i of an application
 abbrev pub node_of : Application → ℕ → Operator → Node
 node_of app i o = node_by i o (link_of app o)
 
@@ -33,29 +34,35 @@ abbrev pub nodes_from : Application → ℕ → List Operator → List Node
 nodes_from app i [] = []
 nodes_from app i (o ∷ os) = node_of app i o ∷ nodes_from app (i + 1) os
 
+-- an application's graph
 abbrev pub graph_of : Application → List Node
 graph_of app = nodes_from app 0 app.operators
 
 -- ---- the sources of its operators
 
+-- the sources of an operator by its role
 abbrev pub link_by : Role → ℕ → ℕ → Link
 link_by (Input kind file per_window) left right = record { left = None; right = None }
 link_by (Inner kind) left right = record { left = Some left; right = if has_right kind then Some right else None }
 link_by Sink left right = record { left = Some left; right = None }
 
+-- the sources of an operator
 abbrev pub sources_of : Node → Link
 sources_of node = link_by node.role node.left node.right
 
+-- the sources of all operators
 abbrev pub sources_in : List Node → List Link
 sources_in nodes = map sources_of nodes
 
 -- ---- what is accepted, and what is refused
 
+-- no rule is broken
 pub record IsAccepted (app : Application) : Type 0 where
   pub before : before_cycles app ≡ Ok tt
   pub acyclic : IsAcyclic (links_of app)
   pub after : after_cycles app ≡ Ok tt
 
+-- the name of an operator
 abbrev pub name_at : List Operator → ℕ → List ℕ
 name_at operators i = (slice_index_or operators i (record { name = []; class = []; properties = []; partitions = pos 1; app_windows = pos 1 })).name
 
@@ -65,6 +72,7 @@ pub data IsRefused (app : Application) (code : ℕ) (place : List ℕ) : Type 0 
   cycle : {i : ℕ} → before_cycles app ≡ Ok tt → IsFirstLoop (links_of app) i → code ≡ 8 → place ≡ name_at app.operators i → IsRefused app code place
   after : before_cycles app ≡ Ok tt → IsAcyclic (links_of app) → after_cycles app ≡ Err (code, place) → IsRefused app code place
 
+-- the graph of an accepted application, or the first broken rule; want of memory says nothing
 abbrev pub Answers : Application → Result (List Node) AppRefusal → Type 0
 Answers app (Ok graph) = IsAccepted app × (graph ≡ graph_of app)
 Answers app (Err Memory) = Unit {0}

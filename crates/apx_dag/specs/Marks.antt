@@ -3,6 +3,7 @@ use Rattle.std.specs.Prelude.{◌≡◌, ℕ, ◌<◌, ◌⊎◌, Bool, true, fa
 use Rattle.apx_dag.specs.declared.link.Link.{Link}
 use Rattle.apx_dag.specs.Order.{IsSource, Feeds, link_at, Reaches}
 
+-- the mark of an operator
 abbrev pub mark_at : List Bool → ℕ → Bool
 mark_at marks i = slice_index_or marks i false
 
@@ -18,6 +19,7 @@ IsUnmarked marks link a = IsSource link a × (mark_at marks a ≡ false)
 abbrev pub IsMarkedIf : List Bool → Option ℕ → Type 0
 IsMarkedIf marks source = (a : ℕ) → source ≡ Some a → mark_at marks a ≡ true
 
+-- a source is there and is not marked
 abbrev pub IsOpen : List Bool → Option ℕ → ℕ → Type 0
 IsOpen marks source a = (source ≡ Some a) × (mark_at marks a ≡ false)
 

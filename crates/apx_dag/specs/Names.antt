@@ -8,5 +8,6 @@ abbrev pub named_again : {X : Type 0} → (X → List ℕ) → List (List ℕ) �
 named_again named seen [] = None
 named_again named seen (x ∷ xs) = if list_any (bytes_eq (named x)) seen then Some (named x) else named_again named (seen ++ named x ∷ []) xs
 
+-- a name is empty, longer than 255 bytes, or has a byte below 32
 abbrev pub is_bad_name : List ℕ → Bool
 is_bad_name name = length name == 0 || nat_lt 255 (length name) || list_any (λ byte. nat_lt byte 32) name

@@ -6,6 +6,7 @@ use Rattle.apx_dag.specs.declared.link.Link.{Link}
 abbrev pub link_at : List Link → ℕ → Link
 link_at links i = slice_index_or links i (record { left = None; right = None })
 
+-- an operator is one of the two that a link names
 abbrev pub IsSource : Link → ℕ → Type 0
 IsSource link a = (link.left ≡ Some a) ⊎ (link.right ≡ Some a)
 

@@ -13,6 +13,7 @@ use Rattle.apx_dag.specs.Class.{class_of}
 abbrev pub is_port : List ℕ → List ℕ → PortText → Bool
 is_port operator port p = bytes_eq p.operator operator && bytes_eq p.port port
 
+-- two ends of streams are one port
 abbrev pub same_port : PortText → PortText → Bool
 same_port p q = is_port p.operator p.port q
 
@@ -20,12 +21,15 @@ same_port p q = is_port p.operator p.port q
 abbrev pub has_output : Operator → Bool
 has_output o = option_map_or classes.has_output (class_of o.class) false
 
+-- an operator's first input port
 abbrev pub left_port : Operator → Option (List ℕ)
 left_port o = option_and_then classes.left_port (class_of o.class)
 
+-- an operator's second input port
 abbrev pub right_port : Operator → Option (List ℕ)
 right_port o = option_and_then classes.right_port (class_of o.class)
 
+-- an operator has a name
 abbrev pub is_named : List ℕ → Operator → Bool
 is_named name o = bytes_eq o.name name
 
@@ -33,6 +37,7 @@ is_named name o = bytes_eq o.name name
 abbrev pub is_source : List Operator → PortText → Bool
 is_source operators p = option_map_or (λ o. has_output o && bytes_eq p.port (codes "output")) (find (is_named p.operator) operators) false
 
+-- what was found is this text
 abbrev pub is_text : List ℕ → Option (List ℕ) → Bool
 is_text text found = option_map_or (bytes_eq text) found false
 
@@ -40,11 +45,13 @@ is_text text found = option_map_or (bytes_eq text) found false
 abbrev pub is_sink : List Operator → PortText → Bool
 is_sink operators p = option_map_or (λ o. is_text p.port (left_port o) || is_text p.port (right_port o)) (find (is_named p.operator) operators) false
 
+-- a stream's source is an output port and each sink an input port
 abbrev pub joins_ports : List Operator → Stream → Bool
 joins_ports operators s = is_source operators s.source && list_all (is_sink operators) s.sinks
 
 -- ---- ports that are used twice
 
+-- a port is a sink of a stream
 abbrev pub is_fed_by : PortText → Stream → Bool
 is_fed_by p s = list_any (same_port p) s.sinks
 
@@ -53,6 +60,7 @@ abbrev pub sink_again : List Stream → List PortText → List PortText → Bool
 sink_again earlier before [] = false
 sink_again earlier before (p ∷ ps) = (list_any (is_fed_by p) earlier || list_any (same_port p) before) || sink_again earlier (before ++ p ∷ []) ps
 
+-- a stream uses a port that an earlier stream, or an earlier sink of its own, has used
 abbrev pub uses_again : List Stream → Stream → Bool
 uses_again earlier s = list_any (λ e. same_port s.source e.source) earlier || sink_again earlier [] s.sinks
 
@@ -63,10 +71,12 @@ used_again earlier (s ∷ ss) = if uses_again earlier s then Some s.name else us
 
 -- ---- ports that are in no stream
 
+-- a port is a sink of some stream, where there is such a port
 abbrev pub is_fed : List Stream → List ℕ → Option (List ℕ) → Bool
 is_fed streams name None = true
 is_fed streams name (Some port) = list_any (λ s. list_any (is_port name port) s.sinks) streams
 
+-- each of an operator's ports is in a stream
 abbrev pub is_joined : List Stream → Operator → Bool
 is_joined streams o = ((not (has_output o) || list_any (λ s. is_port o.name (codes "output") s.source) streams) && is_fed streams o.name (left_port o)) && is_fed streams o.name (right_port o)
 
@@ -76,8 +86,10 @@ is_joined streams o = ((not (has_output o) || list_any (λ s. is_port o.name (co
 abbrev pub source_of : Application → List ℕ → List ℕ → Option ℕ
 source_of app name port = option_and_then (λ s. position (is_named s.source.operator) app.operators) (find (λ s. list_any (is_port name port) s.sinks) app.streams)
 
+-- the numbers of the operators that an operator reads
 abbrev pub link_of : Application → Operator → Link
 link_of app o = record { left = option_and_then (source_of app o.name) (left_port o); right = option_and_then (source_of app o.name) (right_port o) }
 
+-- the same of all operators
 abbrev pub links_of : Application → List Link
 links_of app = map (link_of app) app.operators

@@ -23,6 +23,7 @@ abbrev pub within : ℕ → ℕ → ℤ → Option ℕ
 within low high (pos n) = if nat_le low n && nat_le n high then Some n else None
 within low high (negsuc n) = None
 
+-- a property's value as a whole number from low to high
 abbrev pub natural_in : ℕ → ℕ → PropertyValue → Option ℕ
 natural_in low high value = option_and_then (within low high) (integer_in value)
 
@@ -36,6 +37,7 @@ is_file_name Other = false
 abbrev pub takes_input : Property → Bool
 takes_input p = bytes_eq p.name (codes "file") && is_file_name p.value || bytes_eq p.name (codes "perWindow") && is_some (natural_in 1 1000000 p.value)
 
+-- the property is one of the class, and its value is in its range
 abbrev pub takes : Class → Property → Bool
 takes Lines p = takes_input p
 takes Pairs p = takes_input p
@@ -50,9 +52,11 @@ takes _ p = false
 abbrev pub value_named : List ℕ → List Property → Option PropertyValue
 value_named name properties = option_map (λ p. p.value) (find (λ p. bytes_eq p.name name) (reverse properties))
 
+-- the integer that the last property with a name gives
 abbrev pub integer_named : List ℕ → List Property → Option ℤ
 integer_named name properties = option_and_then integer_in (value_named name properties)
 
+-- the same as a whole number from low to high
 abbrev pub natural_named : ℕ → ℕ → List ℕ → List Property → Option ℕ
 natural_named low high name properties = option_and_then (natural_in low high) (value_named name properties)
 
@@ -64,11 +68,13 @@ role_view (source.Input kind file per_window) = Input kind file per_window
 role_view (source.Inner kind) = Inner kind
 role_view source.Sink = Sink
 
+-- the text that a property gives, if it is one
 abbrev pub text_of : PropertyValue → Option (List ℕ)
 text_of (Number n) = None
 text_of (Text text) = Some text
 text_of Other = None
 
+-- the role of an input, where its file and lines per window are there
 abbrev pub input_of : InputKind → List Property → Option Role
 input_of kind properties =
     option_and_then (λ file. option_map (λ per_window. Input kind file per_window) (natural_named 1 1000000 (codes "perWindow") properties)) (option_and_then text_of (value_named (codes "file") properties))
@@ -89,6 +95,7 @@ kind_of Match properties = Some kinds.Match
 kind_of Enrich properties = Some kinds.Enrich
 kind_of _ properties = None
 
+-- the role of a class, where the properties that it needs are there
 abbrev pub built : Class → List Property → Option Role
 built Lines properties = input_of input_kinds.Lines properties
 built Pairs properties = input_of input_kinds.Pairs properties
@@ -100,5 +107,6 @@ built class properties = option_map Inner (kind_of class properties)
 abbrev pub role_of : Class → List Property → Option Role
 role_of class properties = if list_all (takes class) properties then built class properties else None
 
+-- an operator's role, where its class is known
 abbrev pub role_in : Operator → Option Role
 role_in operator = option_and_then (λ class. role_of class operator.properties) (class_of operator.class)

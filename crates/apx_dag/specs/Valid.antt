@@ -13,11 +13,13 @@ IsKind (kinds.Tumble every) = (1 ≤ every) × (every ≤ 20000)
 IsKind (kinds.Top k) = (1 ≤ k) × (k ≤ 1000)
 IsKind _ = Unit {0}
 
+-- the numbers of a role are in their ranges
 abbrev pub IsRole : Role → Type 0
 IsRole (Input kind file per_window) = (1 ≤ per_window) × (per_window ≤ 1000000)
 IsRole (Inner kind) = IsKind kind
 IsRole Sink = Unit {0}
 
+-- the role of an input
 abbrev pub IsInputRole : Role → Type 0
 IsInputRole (Input kind file per_window) = Unit {0}
 IsInputRole (Inner kind) = ⊥
@@ -29,6 +31,8 @@ IsEndpoint (Input kind file per_window) = Unit {0}
 IsEndpoint (Inner kind) = ⊥
 IsEndpoint Sink = Unit {0}
 
+-- an operator's numbers are in their ranges, and an input or the sink has one partition and gathers
+-- one window
 pub record IsNode (node : Node) : Type 0 where
   pub role : IsRole node.role
   pub partitions : (1 ≤ node.partitions) × (node.partitions ≤ 8)

@@ -18,6 +18,7 @@ use Rattle.apx_json.specs.Decimal.{integer_of}
 abbrev pub Shaped : Type 0 → Type 0
 Shaped X = Result X (List ℕ)
 
+-- what is there goes on to the next reading; the first place that lacks something stays
 infixl 10 ◌>>=◌
 abbrev pub ◌>>=◌ : {A B : Type 0} → Shaped A → (A → Shaped B) → Shaped B
 (Ok x) >>= f = f x
@@ -29,12 +30,14 @@ Fails Memory shaped = Unit {0}
 Fails (Shape place) shaped = shaped ≡ Err place
 Fails Syntax shaped = ⊥
 
+-- what a function returned, seen by view, is what the shape gives, unless memory ran out
 abbrev pub Gives : {X Y : Type 0} → (X → Y) → Result X JsonRefusal → Shaped Y → Type 0
 Gives view (Ok x) shaped = shaped ≡ Ok (view x)
 Gives view (Err e) shaped = Fails e shaped
 
 -- ---- places
 
+-- the path of a place, as `operators[2]`
 abbrev pub path : Place → List ℕ
 path Application = codes "application"
 path (Operator i) = codes "operators[" ++ (decimal i ++ codes "]")
@@ -54,16 +57,20 @@ member_path (Sink i j) name = path (Sink i j) ++ (codes "." ++ name)
 
 -- ---- members
 
+-- whether a value is an object
 abbrev pub is_object : Data → Bool
 is_object d = is_some (as_object d)
 
+-- what was found at a place, where it is an object
 unfoldable pub object_at : Place → Option Data → Shaped Data
 object_at place None = Err (path place)
 object_at place (Some d) = if is_object d then Ok d else Err (path place)
 
+-- the list under a name
 unfoldable pub list_at : Place → List ℕ → Data → Shaped Items
 list_at place name d = ok_or (option_and_then as_array (get name d)) (member_path place name)
 
+-- the text under a name
 unfoldable pub text_at : Place → List ℕ → Data → Shaped (List ℕ)
 text_at place name d = ok_or (option_and_then as_str (get name d)) (member_path place name)
 
@@ -89,11 +96,13 @@ abbrev pub attribute_of : List ℕ → Option Data → Shaped ℤ
 attribute_of place None = Ok (pos 1)
 attribute_of place (Some d) = ok_or (number_of d) place
 
+-- the attribute under a name, 1 where it is absent
 unfoldable pub attribute_at : Place → List ℕ → Data → Shaped ℤ
 attribute_at place name d = attribute_of (member_path place name) (get name d)
 
 -- ---- operators
 
+-- a property's value: an integer, a text, or other
 abbrev pub property_value_of : Data → PropertyValue
 property_value_of null = Other
 property_value_of (boolean b) = Other
@@ -102,6 +111,7 @@ property_value_of (string s) = Text s
 property_value_of (array ds) = Other
 property_value_of (object ms) = Other
 
+-- an object's members as properties
 abbrev pub properties_of : Members → List Property
 properties_of no_members = []
 properties_of (member name d ms) = record { name = name; value = property_value_of d } ∷ properties_of ms
@@ -120,6 +130,7 @@ attributes_at i (Some d) = do
   app_windows ← attribute_at (Attributes i) (codes "APPLICATION_WINDOW_COUNT") attributes
   Ok (partitions, app_windows)
 
+-- operator number i
 unfoldable pub operator_at : ℕ → Data → Shaped texts.Operator
 operator_at i d = do
   operator ← object_at (Operator i) (Some d)
@@ -131,6 +142,7 @@ operator_at i d = do
 
 -- ---- streams
 
+-- one end of a stream: operator name and port name
 unfoldable pub port_at : Place → Option Data → Shaped PortText
 port_at place found = do
   members ← object_at place found
@@ -138,9 +150,11 @@ port_at place found = do
   port ← text_at place (codes "portName") members
   Ok (record { operator = operator; port = port })
 
+-- sink j of stream i
 abbrev pub sink_at : ℕ → ℕ → Data → Shaped PortText
 sink_at i j d = port_at (Sink i j) (Some d)
 
+-- stream number i
 unfoldable pub stream_at : ℕ → Data → Shaped texts.Stream
 stream_at i d = do
   stream ← object_at (Stream i) (Some d)
@@ -152,6 +166,7 @@ stream_at i d = do
 
 -- ---- the application
 
+-- the application that a JSON value is, or the first place that lacks its shape
 unfoldable pub application_of : Data → Shaped texts.Application
 application_of d = do
   members ← object_at Application (Some d)

@@ -15,6 +15,7 @@ pieces_from size piece (message ∷ messages) =
     then pieces_from size (piece ++ message) messages
     else piece ∷ pieces_from size message messages
 
+-- a window's messages in pieces, each as full as the size allows
 abbrev pub pieces_of : CutPlan → ℕ → List Tuple → List (List ℕ)
 pieces_of plan window tuples = pieces_from plan.size [] (map spelling (messages_of plan window tuples))
 

@@ -9,6 +9,7 @@ use Rattle.apx_list.specs.Cut.{pieces_from}
 abbrev pub pieces_by : Cutter → List ℕ → List (List ℕ) → List (List ℕ)
 pieces_by cutter current messages = map (λ piece. piece.items) cutter.done.items ++ pieces_from cutter.size current messages
 
+-- the pieces, once messages are added
 abbrev pub pieces_with : Cutter → List (List ℕ) → List (List ℕ)
 pieces_with cutter messages = pieces_by cutter cutter.current.items messages
 

@@ -29,6 +29,7 @@ abbrev pub AreUpTo : ℕ → List Block → Type 0
 AreUpTo window [] = Unit {0}
 AreUpTo window (block ∷ blocks) = (block.window ≤ window) × AreUpTo window blocks
 
+-- all blocks are of windows above one
 abbrev pub AreAbove : ℕ → List Block → Type 0
 AreAbove window [] = Unit {0}
 AreAbove window (block ∷ blocks) = (window < block.window) × AreAbove window blocks

@@ -6,6 +6,7 @@ use Rattle.apx_wire.specs.declared.message.Message.{Message}
 use Rattle.apx_wire.specs.declared.message.Message.TheVariants.{Payload, Begin, End, Checkpoint, Reset, EndOfStream}
 use Rattle.apx_list.specs.declared.plan.CutPlan.{CutPlan}
 
+-- a window's identifier under a plan
 abbrev pub id_of : CutPlan → ℕ → ℕ
 id_of plan window = identifier_of plan.base window
 
@@ -13,6 +14,7 @@ id_of plan window = identifier_of plan.base window
 abbrev pub reset : CutPlan → ℕ → List Message
 reset plan window = if counter_of window == 0 then Reset (second_of plan.base window) ∷ [] else []
 
+-- what opens a window: perhaps a Reset, and a Begin
 abbrev pub opening : CutPlan → ℕ → List Message
 opening plan window = reset plan window ++ Begin (id_of plan window) ∷ []
 
@@ -24,6 +26,7 @@ checkpoint plan window = if window % plan.every == 0 then Checkpoint (id_of plan
 abbrev pub stop : CutPlan → ℕ → List Message
 stop plan window = if window == plan.windows then EndOfStream ∷ [] else []
 
+-- what closes it: an End, perhaps a Checkpoint, perhaps EndOfStream
 abbrev pub closing : CutPlan → ℕ → List Message
 closing plan window = End (id_of plan window) ∷ checkpoint plan window ++ stop plan window
 

@@ -2,6 +2,7 @@
 use Rattle.std.specs.Prelude.{ℕ, ◌≤◌}
 use Rattle.apx_list.specs.declared.plan.CutPlan.{CutPlan}
 
+-- the limits of a plan
 pub record IsPlan (plan : CutPlan) : Type 0 where
   pub base : plan.base ≤ 4294959295
   pub every_least : 1 ≤ plan.every

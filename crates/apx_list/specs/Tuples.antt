@@ -6,6 +6,7 @@ use Rattle.apx_wire.specs.declared.message.Message.TheVariants.{Payload, Begin, 
 use Rattle.apx_wire.specs.Spelling.{IsMessage, spelling, spellings}
 use Rattle.apx_list.specs.Block.{AreMessages}
 
+-- the tuples of the payloads among messages
 abbrev pub tuples_of : List Message → List Tuple
 tuples_of [] = []
 tuples_of (Payload t ∷ messages) = t ∷ tuples_of messages

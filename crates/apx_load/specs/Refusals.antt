@@ -54,21 +54,25 @@ IsFileRefusal told name limit (NoFile file) = (file ≡ name) × (told name ≡ 
 IsFileRefusal told name limit (FileTooLong file) = (file ≡ name) × IsPast limit (told name)
 IsFileRefusal told name limit _ = ⊥
 
+-- the file under a name is an application of at most 1 MiB, with this graph
 pub record IsApplication (told : Told) (name : List ℕ) (nodes : List Node) : Type 0 where
   pub text : List ℕ
   pub file : IsFile told name 1048576 text
   pub app : IsAppText text nodes
 
+-- the first thing that is refused of it
 abbrev pub IsApplicationRefusal : Told → List ℕ → Refusal → Type 0
 IsApplicationRefusal told name refusal = IsFileRefusal told name 1048576 refusal ⊎ ((text : List ℕ) × IsFile told name 1048576 text × IsTextRefusal text refusal)
 
 -- ---- an input's file: at most 16 MiB, and no line that is refused
 
+-- the cause of a refused line, as the definitions of inputs name it
 abbrev pub cause_view : LineCause → Cause
 cause_view cause.TooMany = TooMany
 cause_view cause.TooLong = TooLong
 cause_view cause.BadPair = BadPair
 
+-- an input has its file, of at most 16 MiB, and no line of it is refused
 pub record IsInputFile (told : Told) (input : groups.Input) (file : List ℕ) (text : List ℕ) : Type 0 where
   pub is_file : IsFile told file 16777216 text
   pub accepted : first_refused input ≡ None
@@ -79,10 +83,12 @@ IsInputOf told (Input kind file per_window) input = (text : List ℕ) × IsInput
 IsInputOf told (Inner kind) input = input ≡ None
 IsInputOf told Sink input = input ≡ None
 
+-- the first refused line of an input
 abbrev pub IsLineRefusal : groups.Input → List ℕ → Refusal → Type 0
 IsLineRefusal input name (RefusedLine file line cause) = (file ≡ name) × (first_refused input ≡ Some (record { line = line; cause = cause_view cause }))
 IsLineRefusal input name _ = ⊥
 
+-- the first thing that is refused of an input
 abbrev pub IsInputRefusal : Told → Role → Refusal → Type 0
 IsInputRefusal told (Input kind file per_window) refusal = IsFileRefusal told file 16777216 refusal ⊎ ((text : List ℕ) × IsFile told file 16777216 text × IsLineRefusal (input_of kind per_window text) file refusal)
 IsInputRefusal told (Inner kind) refusal = ⊥

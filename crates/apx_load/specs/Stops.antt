@@ -21,11 +21,13 @@ IsLoadStop tells refuses rose Large = ⊥
 
 -- ---- the stop for a refusal of an application's text or of its graph
 
+-- the stop for a refusal of an application's text
 abbrev pub stop_of_json : JsonRefusal → Stop
 stop_of_json json.Syntax = Refused NoJson
 stop_of_json (json.Shape place) = Refused (WrongShape place)
 stop_of_json json.Memory = Memory
 
+-- the stop for a refusal of its graph
 abbrev pub stop_of_graph : AppRefusal → Stop
 stop_of_graph (graph.Refused code place) = Refused (BrokenRule code place)
 stop_of_graph graph.Memory = Memory

@@ -8,6 +8,7 @@ use Rattle.apx_load.specs.declared.words.Action.TheVariants.{Check, Sim}
 abbrev pub is_file_name : List ℕ → Bool
 is_file_name name = nat_le 1 (length name) && nat_le (length name) 4096 && not (slice_index name 0 == 45)
 
+-- `check` or `sim`, or no action
 abbrev pub action_of : List ℕ → Option Action
 action_of word = if bytes_eq word (codes "check") then Some Check else if bytes_eq word (codes "sim") then Some Sim else None
 

@@ -20,5 +20,6 @@ pub record IsPassing (passing : Passing) (order : List ℕ) (sink : ℕ) (progre
   pub sink_is : slice_index order sink ≡ sink_of passing.flow.nodes
   pub carried : progress ≡ map (progress_after passing.flow passing.passed) order
 
+-- the dataflow of these operators and inputs
 abbrev pub dataflow_of : List Node → List (Option Input) → Dataflow
 dataflow_of nodes inputs = record { nodes = nodes; inputs = inputs }

@@ -10,6 +10,7 @@ use Rattle.apx_tuple.specs.declared.progress.Progress.{Progress}
 use Rattle.apx_tuple.specs.declared.tuple.Tuple.{Tuple}
 use Rattle.apx_tuple.specs.Tuple.{bag_of}
 
+-- what an operator carries on from a window at which it does not step
 abbrev pub carry : Progress → List Tuple → List Tuple → Progress
 carry before left right = record { state = before.state; left = bag_of (before.left ++ left); right = bag_of (before.right ++ right) }
 

@@ -30,6 +30,7 @@ group input w = drop ((w - 1) * input.per_window) (take (w * input.per_window) i
 unfoldable pub groups : Input → ℕ
 groups input = (length input.lines + (input.per_window - 1)) / input.per_window
 
+-- the bag of the tuples of window w
 unfoldable pub window_bag : Input → ℕ → List Tuple
 window_bag input w = bag_of (filter_map (tuple_of input.kind) (group input w))
 
@@ -51,6 +52,7 @@ cause_of kind per_window number line =
     (cond (nat_lt 1024 (length line)) (Some TooLong)
     (cond (is_some (tuple_of kind line)) None (Some BadPair)))
 
+-- a line refused for its cause, if it is refused
 unfoldable pub refused_at : InputKind → ℕ → ℕ → List ℕ → Option Refused
 refused_at kind per_window number line = option_map (λ cause. record { line = number; cause = cause }) (cause_of kind per_window number line)
 
@@ -60,6 +62,7 @@ first_refused_from kind per_window number [] = None
 first_refused_from kind per_window number (line ∷ lines) =
     option_or (refused_at kind per_window number line) (first_refused_from kind per_window (number + 1) lines)
 
+-- the first refused line of an input, with its cause, if there is one
 unfoldable pub first_refused : Input → Option Refused
 first_refused input = first_refused_from input.kind input.per_window 1 input.lines
 

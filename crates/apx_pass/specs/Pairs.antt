@@ -17,6 +17,7 @@ number_up_to limit digits =
     (Some (digits_value 10 digits))
     None
 
+-- a value: an optional minus and one or more digits, in the range of i64
 unfoldable pub value_of : List ℕ → Option ℤ
 value_of [] = None
 value_of (byte ∷ bytes) =
@@ -24,6 +25,7 @@ value_of (byte ∷ bytes) =
     (option_map (λ n. neg_ℤ (pos n)) (number_up_to (2 ^ 63) bytes))
     (option_map pos (number_up_to (2 ^ 63 - 1) (byte ∷ bytes)))
 
+-- what stands before the last tab, and what stands after it
 unfoldable pub at_last_tab : List ℕ → Option (List ℕ × List ℕ)
 at_last_tab [] = None
 at_last_tab (byte ∷ bytes) =

@@ -46,6 +46,7 @@ gather kind app_windows w progress left right =
 abbrev pub input_at : Dataflow → ℕ → Option Input
 input_at flow o = slice_index_or flow.inputs o None
 
+-- what an input gives in window w, and nothing where there is no input
 abbrev pub rows_of_input : Option Input → ℕ → List Tuple
 rows_of_input None w = []
 rows_of_input (Some input) w = window_bag input w
@@ -56,6 +57,7 @@ pass_role (graph.Input kind file per_window) app_windows input w progress left r
 pass_role (graph.Inner kind) app_windows input w progress left right = gather kind app_windows w progress left (cond (has_right kind) right [])
 pass_role graph.Sink app_windows input w progress left right = record { progress = at_start; rows = left }
 
+-- what an operator makes of a window, by its role
 abbrev pub pass_node : Node → Option Input → ℕ → Progress → List Tuple → List Tuple → Passed
 pass_node node = pass_role node.role node.app_windows
 
@@ -67,13 +69,16 @@ pass_within (suc streams) flow w before o =
     let node = node_at flow.nodes o in
     pass_node node (input_at flow o) w (before o) (pass_within streams flow w before node.left).rows (pass_within streams flow w before node.right).rows
 
+-- what operator o makes of window w, from what each operator carries into it
 abbrev pub pass_window : Dataflow → ℕ → (ℕ → Progress) → ℕ → Passed
 pass_window flow = pass_within (length flow.nodes) flow
 
+-- what operator o carries from window w to the next
 unfoldable pub progress_after : Dataflow → ℕ → ℕ → Progress
 progress_after flow zero o = at_start
 progress_after flow (suc w) o = (pass_window flow (suc w) (progress_after flow w) o).progress
 
+-- what operator o gives in window w
 unfoldable pub rows_at : Dataflow → ℕ → ℕ → List Tuple
 rows_at flow zero o = []
 rows_at flow (suc w) o = (pass_window flow (suc w) (progress_after flow w) o).rows
@@ -84,9 +89,11 @@ windows_of [] = 0
 windows_of (None ∷ inputs) = windows_of inputs
 windows_of (Some input ∷ inputs) = max (groups input) (windows_of inputs)
 
+-- how many windows a dataflow has
 abbrev pub windows : Dataflow → ℕ
 windows flow = windows_of flow.inputs
 
+-- whether a role is the sink
 abbrev pub is_sink : Role → Bool
 is_sink graph.Sink = true
 is_sink _ = false

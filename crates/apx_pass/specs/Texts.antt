@@ -9,6 +9,7 @@ use Rattle.apx_window.specs.Identifier.{identifier_of}
 unfoldable pub row_text : Tuple → List ℕ
 row_text row = row.key ++ (codes "\t" ++ (signed_decimal row.value ++ codes "\n"))
 
+-- the rows, one after the other
 abbrev pub rows_text : List Tuple → List ℕ
 rows_text rows = flat_map row_text rows
 
@@ -16,6 +17,7 @@ rows_text rows = flat_map row_text rows
 unfoldable pub head_text : ℕ → ℕ → ℕ → List ℕ
 head_text base w rows = codes "window " ++ (decimal w ++ (codes " " ++ (decimal (identifier_of base w) ++ (codes " " ++ (decimal rows ++ codes "\n")))))
 
+-- a window's text: the line over it and its rows
 unfoldable pub window_text : ℕ → ℕ → List Tuple → List ℕ
 window_text base w rows = head_text base w (length rows) ++ rows_text rows
 

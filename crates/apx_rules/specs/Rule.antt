@@ -18,6 +18,7 @@ pub record Outcome : Type 0 where
 abbrev pub tuples_of : List ℕ → List ℤ → List Tuple
 tuples_of key values = map (λ value. record { key = key; value = value }) values
 
+-- whether there are any values
 abbrev pub came : List ℤ → Bool
 came values = not (length values == 0)
 

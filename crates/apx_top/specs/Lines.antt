@@ -7,6 +7,7 @@ use Rattle.apx_load.specs.declared.refusal.Refusal.TheVariants.{NotACommand, NoF
 use Rattle.apx_load.specs.declared.stop.Stop.{Stop}
 use Rattle.apx_load.specs.declared.stop.Stop.TheVariants.{Refused, CannotRead, StoreFailed, OutputFailed, Memory, Large}
 
+-- the exit status of a refusal
 abbrev pub refusal_status : Refusal → ℕ
 refusal_status NotACommand = 1
 refusal_status (NoFile name) = 3
@@ -16,6 +17,7 @@ refusal_status (WrongShape place) = 5
 refusal_status (BrokenRule code place) = 5
 refusal_status (RefusedLine file line cause) = 6
 
+-- the exit status of a stop
 abbrev pub status_of : Stop → ℕ
 status_of (Refused refusal) = refusal_status refusal
 status_of (CannotRead name) = 2
@@ -24,6 +26,7 @@ status_of OutputFailed = 12
 status_of Memory = 13
 status_of Large = 19
 
+-- the end of the line that refuses a line
 abbrev pub cause_text : LineCause → List ℕ
 cause_text TooLong = codes " refused: too long\n"
 cause_text BadPair = codes " refused: no pair\n"
@@ -33,6 +36,7 @@ cause_text TooMany = codes " refused: too many windows\n"
 abbrev pub blank_before : List ℕ → List ℕ
 blank_before place = if length place == 0 then [] else codes " "
 
+-- the line that says why something was refused
 abbrev pub refusal_line : Refusal → List ℕ
 refusal_line NotACommand = codes "apex: not a command\n"
 refusal_line (NoFile name) = codes "apex: no file " ++ (name ++ codes "\n")

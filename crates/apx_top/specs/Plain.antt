@@ -87,10 +87,12 @@ pub data HasStopped (words : List (List ℕ)) (files_tell : Bool) (told : Told) 
 
 -- ---- the status and the line that says why
 
+-- the exit status, 0 where nothing stopped
 abbrev pub status_after : Result ⊤ Stop → ℕ
 status_after (Ok _) = 0
 status_after (Err stop) = status_of stop
 
+-- the line that says why, empty where nothing stopped
 abbrev pub line_after : Result ⊤ Stop → List ℕ
 line_after (Ok _) = []
 line_after (Err stop) = line_of stop

@@ -27,6 +27,7 @@ LeftByCommit (Ok _) before after now = now ≡ after
 LeftByCommit (Err StoreFailed) before after now = (now ≡ before) ⊎ (now ≡ after)
 LeftByCommit (Err stop) before after now = now ≡ before
 
+-- what stops one commit: a fault of the store, and want of memory
 abbrev pub IsCommitStop : Type 0 → Stop → Type 0
 IsCommitStop rose StoreFailed = rose
 IsCommitStop rose Memory = ⊤

@@ -11,6 +11,7 @@ use Rattle.apx_tuple.specs.Tuple.{key_order}
 abbrev pub Pair : Type 0
 Pair = List ℕ × ℤ
 
+-- a pair's key
 abbrev pub pair_key : Pair → List ℕ
 pair_key p = p.0
 

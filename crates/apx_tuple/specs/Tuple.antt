@@ -15,6 +15,7 @@ key_order = slice_cmp nat_cmp
 abbrev pub tuple_order : Tuple → Tuple → Ordering
 tuple_order x y = ordering_then (key_order x.key y.key) (int_cmp x.value y.value)
 
+-- a tuple's key
 abbrev pub tuple_key : Tuple → List ℕ
 tuple_key t = t.key
 

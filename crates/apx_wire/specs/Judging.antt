@@ -15,12 +15,15 @@ use Rattle.apx_wire.specs.declared.fault.WireFault.TheVariants.{BadType, BadKey,
 abbrev pub number_in : List ℕ → ℕ
 number_in bytes = from_be_bytes w32 (take 4 bytes)
 
+-- the length of a payload's key
 abbrev pub key_length_in : List ℕ → ℕ
 key_length_in bytes = from_be_bytes w16 (take 2 (drop 4 bytes))
 
+-- a payload's key
 abbrev pub key_in : List ℕ → List ℕ
 key_in bytes = take (key_length_in bytes) (drop 6 bytes)
 
+-- a payload's tuple
 abbrev pub tuple_in : List ℕ → Tuple
 tuple_in bytes = record {
   key = key_in bytes;
@@ -41,6 +44,7 @@ payload_judged place bytes =
 abbrev pub field_in : Width → List ℕ → Option ℕ
 field_in w bytes = if nat_lt (length bytes) (byte_len w) then None else Some (from_be_bytes w (take (byte_len w) bytes))
 
+-- what a reader from left to right makes of bytes: a message, nothing yet, or what is wrong
 unfoldable pub judged : ℕ → List ℕ → Result (Option (Message × ℕ)) WireFault
 judged place [] = Ok None
 judged place (kind ∷ bytes) =

@@ -18,6 +18,7 @@ pub record Before : Type 0 where
 abbrev pub beginning : Before
 beginning = record { latest = None; window = None }
 
+-- the latest window, with one more message
 abbrev pub window_after : Option ℕ → Message → Option ℕ
 window_after window (Begin id) = Some id
 window_after window _ = window
@@ -26,6 +27,7 @@ window_after window _ = window
 abbrev pub with_message : Before → Message → Before
 with_message before m = record { latest = Some m; window = window_after before.window m }
 
+-- with more messages
 abbrev pub with_messages : Before → List Message → Before
 with_messages before [] = before
 with_messages before (m ∷ ms) = with_messages (with_message before m) ms
@@ -34,6 +36,7 @@ with_messages before (m ∷ ms) = with_messages (with_message before m) ms
 abbrev pub second_part : ℕ → ℕ
 second_part id = id / 2 ^ 32
 
+-- the low half
 abbrev pub counter_part : ℕ → ℕ
 counter_part id = id % 2 ^ 32
 
@@ -79,10 +82,12 @@ abbrev pub next_second : Option ℕ → ℕ → Bool
 next_second None second = true
 next_second (Some window) second = (counter_part window == 15999) && (second == second_part window + 8000)
 
+-- this is the latest window
 abbrev pub is_window : Option ℕ → ℕ → Bool
 is_window None id = false
 is_window (Some window) id = id == window
 
+-- a message may come behind those before it
 abbrev pub may_follow : Before → Message → Bool
 may_follow before (Payload t) = payload_may_follow before.latest t
 may_follow before (Begin id) = begin_may_follow before id

@@ -35,6 +35,7 @@ abbrev pub tuple_spelling : Tuple → List ℕ
 tuple_spelling t =
     to_be_bytes w32 (hash_of t.key) ++ (to_be_bytes w16 (length t.key) ++ (t.key ++ to_be_bytes w64 (cast_unsigned w64 t.value)))
 
+-- a message's bytes: a type byte and the fields, numbers big-endian
 abbrev pub spelling : Message → List ℕ
 spelling (Payload t) = 1 ∷ tuple_spelling t
 spelling (Begin id) = 2 ∷ to_be_bytes w64 id
@@ -43,6 +44,7 @@ spelling (Checkpoint id) = 4 ∷ to_be_bytes w64 id
 spelling (Reset second) = 5 ∷ to_be_bytes w32 second
 spelling EndOfStream = 6 ∷ []
 
+-- the bytes of messages, one behind the other
 abbrev pub spellings : List Message → List ℕ
 spellings ms = flat_map spelling ms
 

@@ -44,6 +44,7 @@ pub record RejectsFrom (before : Before) (place : ℕ) (bytes : List ℕ) (fault
   pub in_order : AreInOrder before messages
   pub wrong : IsWrong (with_messages before messages) (place + length (spellings messages)) tail fault
 
+-- the fault is the first thing that is wrong with the stream
 abbrev pub Rejects : List ℕ → WireFault → Type 0
 Rejects stream fault = RejectsFrom beginning 0 stream fault
 
