@@ -5,5 +5,6 @@ pub mod Lines
 pub mod Order
 pub mod Pairs
 pub mod Pass
+pub mod Script
 pub mod Texts
 pub mod Valid
