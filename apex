@@ -1,6 +1,7 @@
 #!/usr/bin/env bash
 # Runs the program with these words in the caller's folder, and ends with the program's status.
-# First builds and proves it, where it isn't built yet or a source is newer than the last build.
+# First builds and proves it, where it isn't built yet or a source is newer than the last build; where
+# another call is building already, waits for that one.
 # Status 70: it couldn't be built, and nothing was run.
 set -u
 
@@ -8,6 +9,8 @@ top="$(dirname "$(readlink -f "${BASH_SOURCE[0]}")")"
 program="$top/crates/apex/out/apex"
 built="$top/out/apex.built"
 log="$top/out/apex.log"
+lock="$top/out/apex.lock"
+commands="check sim"
 
 say() { printf './apex: %s\n' "$*" >&2; }
 
@@ -17,15 +20,14 @@ is_current() {
         [ -z "$(find "$top/crates.txt" "$top"/crates/*/{src,specs,proofs} -newer "$built" -print -quit 2>/dev/null)" ]
 }
 
-# `rt run` proves, compiles and links the program, and then runs it: without words, so that it only
-# says that this is no command. The line that it prints before that shows that the rest was done.
+# Whether the first word is the name of a command.
+is_command() { [ $# -gt 0 ] && [[ " $commands " == *" $1 "* ]]; }
+
+# `rt run` proves, compiles and links the program as far as that isn't done, and then runs it: without
+# words, so that it only says that this is no command. The line that it prints before that shows that
+# the rest was done.
 build() {
-    if ! command -v rt >/dev/null; then
-        say "rt, the toolchain's command, isn't found"
-        return 1
-    fi
-    mkdir -p "$top/out" || return 1
-    local started="$built.$$"
+    local started="$built.$$" since=$SECONDS
     touch "$started"
     say "proving and building the program, which takes minutes the first time (see $log)"
     (cd "$top/crates/apex" && rt run) >"$log" 2>&1 </dev/null
@@ -36,8 +38,29 @@ build() {
         return 1
     fi
     mv -f "$started" "$built"
-    say "built"
+    say "built in $((SECONDS - since)) seconds"
 }
 
-is_current || build || exit 70
+# Builds, unless another call has done so while this one waited.
+build_once() {
+    if ! command -v rt >/dev/null; then
+        say "rt, the toolchain's command, isn't found"
+        return 1
+    fi
+    mkdir -p "$top/out" || return 1
+    (
+        flock 9 || exit 1
+        is_current || build
+    ) 9>"$lock"
+}
+
+if ! is_current; then
+    # What is no command needs no program to say so.
+    if ! is_command "$@"; then
+        printf 'apex: not a command\n' >&2
+        say "the commands are $commands; docs/MANUAL.md tells their words"
+        exit 1
+    fi
+    build_once || exit 70
+fi
 exec "$program" "$@"
