@@ -2,7 +2,7 @@
 ghost use Rattle.std.specs.Prelude.{◌≡◌, ◌≤◌, true, IsTrue, IfOk, IfErr};
 ghost use Rattle.apx_device.specs.Cause.{Rose};
 ghost use Rattle.apx_dag.specs.Valid.{IsRole};
-ghost use Rattle.apx_input.specs.Refusals.{Tells};
+ghost use Rattle.apx_input.specs.Refusals.{Reports};
 ghost use Rattle.apx_pass.specs.Groups as groups;
 ghost use Rattle.apx_pass.specs.Groups.{first_refused};
 ghost use Rattle.apx_pass.specs.Pass.{windows_of};
@@ -119,7 +119,7 @@ fn input<F: Folder>(alloc: Global, files: &mut F, node: &Node) -> Result<Option<
 
 /// Why a run stops at a refused line of a file.
 fn refused_line(file: &Name, refusal: LineRefusal) -> Stop
-    ensures { (input : groups.Input) → Tells refusal (first_refused input) → IsLoadStop true (IsLineRefusal input file.now) ⊥ result }
+    ensures { (input : groups.Input) → Reports refusal (first_refused input) → IsLoadStop true (IsLineRefusal input file.now) ⊥ result }
 {
     let (line, cause) = match refusal {
         LineRefusal::TooMany { line } => (line, LineCause::TooMany),

@@ -199,18 +199,18 @@ pub keyed-rows : (n : ℕ) (own : List ℕ → ℕ) → IsOwner n own → (kind 
     bag_of (flat_map (λ part. part) (of_parts n (λ i. (keyed_step kind window (cut_state own i state) (cut_bag own i left) (cut_bag own i right)).rows))) ≡ (keyed_step kind window state left right).rows
 keyed-rows n own o kind window state left right =
     bag-same (flat_map (λ part. part) (of_parts n (λ i. (keyed_step kind window (cut_state own i state) (cut_bag own i left) (cut_bag own i right)).rows)))
-    (flat_map (λ key. (outcome_at kind window state left right key).told) (step_keys state left right))
+    (flat_map (λ key. (outcome_at kind window state left right key).emitted) (step_keys state left right))
     (λ t. times-parts tuple_order t n (λ i. (keyed_step kind window (cut_state own i state) (cut_bag own i left) (cut_bag own i right)).rows)
     ∙ (λ j. sum_below n (λ i. part i t j))
-    ∙ made-parts n own o (λ key. (outcome_at kind window state left right key).told) t (step_keys state left right))
+    ∙ made-parts n own o (λ key. (outcome_at kind window state left right key).emitted) t (step_keys state left right))
   where
     part : (i : ℕ) (t : Tuple) → times tuple_order t (keyed_step kind window (cut_state own i state) (cut_bag own i left) (cut_bag own i right)).rows
-        ≡ times tuple_order t (flat_map (λ key. (outcome_at kind window state left right key).told) (filter (λ k. own k == i) (step_keys state left right)))
+        ≡ times tuple_order t (flat_map (λ key. (outcome_at kind window state left right key).emitted) (filter (λ k. own k == i) (step_keys state left right)))
     part i t =
-        sorted-times tuple_order t (flat_map (λ key. (outcome_at kind window (cut_state own i state) (cut_bag own i left) (cut_bag own i right) key).told) (step_keys (cut_state own i state) (cut_bag own i left) (cut_bag own i right)))
-        ∙ ap (λ ks. times tuple_order t (flat_map (λ key. (outcome_at kind window (cut_state own i state) (cut_bag own i left) (cut_bag own i right) key).told) ks)) (cut-keys own i state left right)
-        ∙ ap (times tuple_order t) (made-same (λ k. own k == i) (λ key. (outcome_at kind window (cut_state own i state) (cut_bag own i left) (cut_bag own i right) key).told) (λ key. (outcome_at kind window state left right key).told)
-        (λ k h. ap (λ (x : Outcome). x.told) (cut-outcome own i kind window state left right k h)) (step_keys state left right))
+        sorted-times tuple_order t (flat_map (λ key. (outcome_at kind window (cut_state own i state) (cut_bag own i left) (cut_bag own i right) key).emitted) (step_keys (cut_state own i state) (cut_bag own i left) (cut_bag own i right)))
+        ∙ ap (λ ks. times tuple_order t (flat_map (λ key. (outcome_at kind window (cut_state own i state) (cut_bag own i left) (cut_bag own i right) key).emitted) ks)) (cut-keys own i state left right)
+        ∙ ap (times tuple_order t) (made-same (λ k. own k == i) (λ key. (outcome_at kind window (cut_state own i state) (cut_bag own i left) (cut_bag own i right) key).emitted) (λ key. (outcome_at kind window state left right key).emitted)
+        (λ k h. ap (λ (x : Outcome). x.emitted) (cut-outcome own i kind window state left right k h)) (step_keys state left right))
 
 -- ---- counting by a test
 

@@ -1,6 +1,6 @@
 -- Partitions of an operator: what each part is given, and what their outputs make together.
 --
--- `own` tells the part that a key belongs to, a number below `n`.
+-- `own` gives the part that a key belongs to, a number below `n`.
 use Rattle.std.specs.Prelude.{◌≡◌, ℕ, zero, suc, ◌<◌, ◌==◌, List, [], ◌∷◌}
 use Rattle.std.specs.declared.cmp.Ordering.{Ordering}
 use Rattle.std.specs.Ordering.{int_cmp, ordering_then}

@@ -28,7 +28,7 @@ pub enum Kind {
     Sum,
     /// Keeps the greatest value of each key.
     Peak,
-    /// Tells the first value of each key.
+    /// Emits the first value of each key.
     First,
     /// Adds the values of each key over `every` windows.
     Tumble { every: u32 },
