@@ -20,6 +20,10 @@ pub record IsMask (n m : ℕ) : Type 0 where
 abbrev pub mask_of : ℕ → ℕ
 mask_of n = if nat_le n 1 then 0 else if nat_le n 2 then 1 else if nat_le n 4 then 3 else 7
 
--- The partition of n that owns a key: the key's class, its number under the mask, modulo n.
+-- The partition of n that owns the keys with a number: their class, the number under the mask, modulo n.
+abbrev pub number_owner : ℕ → ℕ → ℕ
+number_owner n number = bit_and number (mask_of n) % n
+
+-- The partition of n that owns a key.
 abbrev pub owner_of : ℕ → List ℕ → ℕ
-owner_of n key = bit_and (hash_of key) (mask_of n) % n
+owner_of n key = number_owner n (hash_of key)

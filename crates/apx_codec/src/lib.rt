@@ -2,7 +2,7 @@
 #![tactic(auto)]
 
 ghost use Rattle.std.specs.Prelude.{◌≡◌, ℕ, ◌+◌, ◌*◌, ◌%◌, ◌^◌, ◌<◌, ◌≤◌, bit_and};
-ghost use Rattle.apx_codec.specs.KeyNumber.{hash_of, mask_of, IsMask, owner_of};
+ghost use Rattle.apx_codec.specs.KeyNumber.{hash_of, mask_of, IsMask, number_owner, owner_of};
 
 /// The greatest number of partitions that an operator may have.
 pub const MOST_PARTITIONS: u8 = 8;
@@ -43,7 +43,17 @@ pub fn owner(n: u8, key: &[u8]) -> u8
     ensures value { result ≡ owner_of n key.now }
     ensures within { result < n }
 {
-    let class = hash(key) & mask(n);
+    owner_by_number(n, hash(key))
+}
+
+/// The number of the partition, from 0, that owns the keys with a number among `n` partitions.
+pub fn owner_by_number(n: u8, number: u32) -> u8
+    requires low { 1 ≤ n }
+    requires high { n ≤ 8 }
+    ensures value { result ≡ number_owner n number }
+    ensures within { result < n }
+{
+    let class = number & mask(n);
     (class % u32::from(n)) as u8
 }
 
@@ -80,6 +90,7 @@ mod tests {
             (3, "d", 0),
         ] {
             assert_eq!(rt; owner(n, key.as_bytes()), want, "at {key}");
+            assert_eq!(rt; owner_by_number(n, hash(key.as_bytes())), want, "at {key}");
         }
     }
 }

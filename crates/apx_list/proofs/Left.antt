@@ -1,7 +1,11 @@
 -- Messages that are read one after the other, and their tuples.
-use Rattle.std.proofs.Common.{◌≡◌, ℕ, zero, suc, ◌<◌, List, [], ◌∷◌, ◌++◌, length, map, refl, sym, ap, ◌∙◌, arith, Bool, true, false, cond, eqb, append_assoc, length-append, inl, inr}
+use Rattle.std.proofs.Common.{◌≡◌, ℕ, zero, suc, ◌+◌, ◌%◌, ◌<◌, ◌≢◌, List, Option, Some, None, eq-eqb, [], ◌∷◌, ◌++◌, length, map, refl, sym, ap, ◌∙◌, arith, Bool, true, false, cond, eqb, append_assoc, length-append, inl, inr}
+use Rattle.std.specs.Prelude.{filter, bit_and, ◌==◌}
 use Rattle.std.proofs.lemmas.List.{append-nil}
-use Rattle.std.proofs.lemmas.Bool.{eqb-true}
+use Rattle.apx_codec.specs.KeyNumber.{hash_of, number_owner, owner_of}
+use Rattle.apx_wire.specs.Judging.{head_of}
+use Rattle.std.proofs.lemmas.Bool.{eqb-true, ne_eqb}
+use Rattle.std.proofs.lemmas.List.Elements.{filter-append}
 use Rattle.apx_tuple.specs.declared.tuple.Tuple.{Tuple}
 use Rattle.apx_window.specs.Identifier.{second_of}
 use Rattle.apx_wire.specs.declared.message.Message.{Message}
@@ -12,7 +16,7 @@ use Rattle.apx_list.specs.declared.plan.CutPlan.{CutPlan}
 use Rattle.apx_list.specs.declared.block.Block.{Block}
 use Rattle.apx_list.specs.Messages.{opening, closing, reset, checkpoint, stop, id_of}
 use Rattle.apx_list.specs.Block.{AreMessages, AreSome, Spells, block_messages}
-use Rattle.apx_list.specs.Tuples.{tuples_of, Begins, IsLeft}
+use Rattle.apx_list.specs.Tuples.{tuples_of, owned, owned_of, Begins, IsLeft}
 
 -- bytes that are left begin with a message
 pub begins : (rest : List ℕ) (left : List Message) → AreMessages left → rest ≡ spellings left → 0 < length rest → Begins rest
@@ -27,15 +31,19 @@ tuples_of-first (Checkpoint id) left = refl
 tuples_of-first (Reset second) left = refl
 tuples_of-first EndOfStream left = refl
 
+-- the same of those that a part owns
+owned_of-first : (n i : ℕ) (m : Message) (left : List Message) → owned_of n i (m ∷ []) ++ owned_of n i left ≡ owned_of n i (m ∷ left)
+owned_of-first n i m left = sym (filter-append (λ (t : Tuple). owner_of n t.key == i) (tuples_of (m ∷ [])) (tuples_of left)) ∙ ap (owned n i) (tuples_of-first m left)
+
 -- what taking the first message does to the bytes and the tuples
-abbrev pub Takes : List ℕ → List ℕ → List Tuple → List Tuple → Type 0
-Takes rest after old new = (m : Message) (tail : List ℕ) → IsMessage m → rest ≡ spelling m ++ tail → (after ≡ tail) × (new ≡ old ++ tuples_of (m ∷ []))
+abbrev pub Takes : ℕ → ℕ → List ℕ → List ℕ → List Tuple → List Tuple → Type 0
+Takes n i rest after old new = (m : Message) (tail : List ℕ) → IsMessage m → rest ≡ spelling m ++ tail → (after ≡ tail) × (new ≡ old ++ owned_of n i (m ∷ []))
 
 -- one message less is left
-pub one_less : (old : List Tuple) (messages : List Message) (new more : List Tuple) (rest after : List ℕ) → 0 < length rest → Takes rest after new more → IsLeft old messages new rest → IsLeft old messages more after
-one_less old messages new more rest after some takes is = go is.left is.whole is.bytes is.tuples
+pub one_less : (n i : ℕ) (old : List Tuple) (messages : List Message) (new more : List Tuple) (rest after : List ℕ) → 0 < length rest → Takes n i rest after new more → IsLeft n i old messages new rest → IsLeft n i old messages more after
+one_less n i old messages new more rest after some takes is = go is.left is.whole is.bytes is.tuples
   where
-    go : (left : List Message) → AreMessages left → rest ≡ spellings left → new ++ tuples_of left ≡ old ++ tuples_of messages → IsLeft old messages more after
+    go : (left : List Message) → AreMessages left → rest ≡ spellings left → new ++ owned_of n i left ≡ old ++ owned_of n i messages → IsLeft n i old messages more after
     go [] whole bytes tuples = absurd (omega (arith, some, ap length bytes))
     go (m ∷ left) whole bytes tuples =
         let taken = takes m (spellings left) whole.0 bytes in
@@ -43,20 +51,20 @@ one_less old messages new more rest after some takes is = go is.left is.whole is
           left = left;
           whole = whole.1;
           bytes = taken.0;
-          tuples = rw taken.1 (append_assoc new (tuples_of (m ∷ [])) (tuples_of left) ∙ ap (λ ts. new ++ ts) (tuples_of-first m left) ∙ tuples);
+          tuples = rw taken.1 (append_assoc new (owned_of n i (m ∷ [])) (owned_of n i left) ∙ ap (λ ts. new ++ ts) (owned_of-first n i m left) ∙ tuples);
         }
 
-pub shorter : (rest after : List ℕ) (old new : List Tuple) (left : List Message) → AreMessages left → rest ≡ spellings left → 0 < length rest → Takes rest after old new → length after < length rest
-shorter rest after old new [] whole bytes some takes = absurd (omega (arith, some, ap length bytes))
-shorter rest after old new (m ∷ left) whole bytes some takes =
+pub shorter : (n i : ℕ) (rest after : List ℕ) (old new : List Tuple) (left : List Message) → AreMessages left → rest ≡ spellings left → 0 < length rest → Takes n i rest after old new → length after < length rest
+shorter n i rest after old new [] whole bytes some takes = absurd (omega (arith, some, ap length bytes))
+shorter n i rest after old new (m ∷ left) whole bytes some takes =
     let taken = takes m (spellings left) whole.0 bytes in
     omega (arith, length-spelling m, ap length taken.0, ap length bytes, length-append (spelling m) (spellings left))
 
 -- where no byte is left, no message is
-pub all_taken : (old : List Tuple) (messages : List Message) (new : List Tuple) (rest : List ℕ) → length rest ≡ 0 → IsLeft old messages new rest → new ≡ old ++ tuples_of messages
-all_taken old messages new rest none is = go is.left is.bytes is.tuples
+pub all_taken : (n i : ℕ) (old : List Tuple) (messages : List Message) (new : List Tuple) (rest : List ℕ) → length rest ≡ 0 → IsLeft n i old messages new rest → new ≡ old ++ owned_of n i messages
+all_taken n i old messages new rest none is = go is.left is.bytes is.tuples
   where
-    go : (left : List Message) → rest ≡ spellings left → new ++ tuples_of left ≡ old ++ tuples_of messages → new ≡ old ++ tuples_of messages
+    go : (left : List Message) → rest ≡ spellings left → new ++ owned_of n i left ≡ old ++ owned_of n i messages → new ≡ old ++ owned_of n i messages
     go [] bytes tuples = sym (append-nil new) ∙ tuples
     go (m ∷ left) bytes tuples = absurd (omega (arith, none, length-spelling m, ap length bytes, length-append (spelling m) (spellings left)))
 
@@ -117,6 +125,53 @@ tuples_of-block plan block spells =
     let ends : tuples_of spells.ends ≡ [] = none_of_some spells.ends (closing plan block.window) spells.closes (no_tuples-closing plan block.window) in
     let front : tuples_of (cond (eqb block.index 0) (opening plan block.window) [] ++ map Payload spells.tuples) ≡ spells.tuples = tuples_of-append (cond (eqb block.index 0) (opening plan block.window) []) (map Payload spells.tuples) ∙ rw (opens, tuples_of-map spells.tuples) refl in
     tuples_of-append (cond (eqb block.index 0) (opening plan block.window) [] ++ map Payload spells.tuples) spells.ends ∙ rw (front, ends) (append-nil spells.tuples)
+
+-- ---- who owns a message's tuple
+
+-- where there is one part, it owns all
+one_part : (number : ℕ) → number_owner 1 number ≡ 0
+one_part number = omega arith
+
+pub owned_all : (tuples : List Tuple) → owned 1 0 tuples ≡ tuples
+owned_all [] = refl
+owned_all (t ∷ tuples) = rw (one_part (hash_of t.key)) (ap (λ ts. t ∷ ts) (owned_all tuples))
+
+-- a message that is no payload has no tuple
+pub no_payload : (n i : ℕ) (m : Message) → head_of m ≡ None → owned_of n i (m ∷ []) ≡ tuples_of (m ∷ [])
+no_payload n i (Payload t) none = absurd cc
+no_payload n i (Begin id) none = refl
+no_payload n i (End id) none = refl
+no_payload n i (Checkpoint id) none = refl
+no_payload n i (Reset second) none = refl
+no_payload n i EndOfStream none = refl
+
+head_is : (number len hash size : ℕ) → Path (Option (ℕ × ℕ)) (Some (hash, size)) (Some (number, len)) → (hash ≡ number) × (size ≡ len)
+head_is number len hash size e =
+    let p : Path (ℕ × ℕ) (hash, size) (number, len) = cc in
+    (ap (λ (x : ℕ × ℕ). x.0) p, ap (λ (x : ℕ × ℕ). x.1) p)
+
+-- a payload that the part owns, and one of another part
+pub own_payload : (n i number len : ℕ) (m : Message) → head_of m ≡ Some (number, len) → number_owner n number ≡ i → owned_of n i (m ∷ []) ≡ tuples_of (m ∷ [])
+own_payload n i number len (Payload t) head mine =
+    let is = head_is number len (hash_of t.key) _ head in
+    let owns : eqb (owner_of n t.key) i ≡ true = eq-eqb _ _ (ap (number_owner n) is.0 ∙ mine) in
+    rw owns refl
+own_payload n i number len (Begin id) head mine = refl
+own_payload n i number len (End id) head mine = refl
+own_payload n i number len (Checkpoint id) head mine = refl
+own_payload n i number len (Reset second) head mine = refl
+own_payload n i number len EndOfStream head mine = refl
+
+pub other_payload : (n i number len : ℕ) (m : Message) → head_of m ≡ Some (number, len) → number_owner n number ≢ i → (owned_of n i (m ∷ []) ≡ []) × (len ≡ length (spelling m))
+other_payload n i number len (Payload t) head other =
+    let is = head_is number len (hash_of t.key) (length (spelling (Payload t))) head in
+    let owns : eqb (owner_of n t.key) i ≡ false = ne_eqb _ _ (λ e. other (sym (ap (number_owner n) is.0) ∙ e)) in
+    (rw owns refl, sym is.1)
+other_payload n i number len (Begin id) head other = absurd cc
+other_payload n i number len (End id) head other = absurd cc
+other_payload n i number len (Checkpoint id) head other = absurd cc
+other_payload n i number len (Reset second) head other = absurd cc
+other_payload n i number len EndOfStream head other = absurd cc
 
 -- what a test of emptiness says
 pub is_some : (n : ℕ) → false ≡ eqb n 0 → 0 < n

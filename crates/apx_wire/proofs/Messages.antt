@@ -2,7 +2,7 @@
 use Rattle.std.proofs.Common.{◌≡◌, ℕ, zero, suc, ◌+◌, ◌*◌, ◌%◌, ◌^◌, ◌<◌, ◌≤◌, List, [], ◌∷◌, ◌++◌, length, take, drop, Option, Some, None, Result, Ok, Err, Bool, true, false, not, cond, ltb, eqb, refl, sym, ap, subst, ◌∙◌, append_assoc, arith}
 use Rattle.std.specs.Option.{option_map}
 use Rattle.std.specs.Int.{Width, w16, w32, w64, byte_len, from_be_bytes, to_be_bytes, cast_signed, cast_unsigned}
-use Rattle.std.proofs.lemmas.Bool.{ltb-false, eqb-true, ne_eqb}
+use Rattle.std.proofs.lemmas.Bool.{ltb-false, le-ltb, eqb-true, ne_eqb}
 use Rattle.std.proofs.lemmas.List.{take_at, drop_at, take-append-drop, length-append, length-take, length-drop, drop-drop}
 use Rattle.std.proofs.lemmas.Int.{of_z-to_z, to_z-of_z}
 use Rattle.std.proofs.Math.Facts.{sfits_to_z, Fits-of_z}
@@ -13,7 +13,7 @@ use Rattle.apx_wire.specs.declared.fault.WireFault.TheVariants.{BadType, BadKey,
 use Rattle.apx_wire.specs.declared.message.Message.{Message}
 use Rattle.apx_wire.specs.declared.message.Message.TheVariants.{Payload, Begin, End, Checkpoint, Reset, EndOfStream}
 use Rattle.apx_wire.specs.Spelling.{AreBytes, IsTuple, IsMessage, tuple_spelling, spelling, BeginsWith}
-use Rattle.apx_wire.specs.Judging.{number_in, key_length_in, key_in, tuple_in, payload_judged, field_in, judged, GivesMessage}
+use Rattle.apx_wire.specs.Judging.{number_in, key_length_in, key_in, tuple_in, payload_judged, payload_head, head_of, field_in, judged, GivesMessage}
 use Rattle.std.specs.Prelude.{IfOk, IfSome}
 use Rattle.apx_wire.proofs.Fields.{IsWide, wide16, wide32, wide64, AreBytes-drop, AreBytes-take, front-back, front-below, field_in-again, field_in-some}
 use Rattle.apx_wire.proofs.Payloads.{payload_judged-whole}
@@ -201,6 +201,22 @@ judged_again place (End id) rest fits = number_again w64 (2 ^ 64) wide64 9 End i
 judged_again place (Checkpoint id) rest fits = number_again w64 (2 ^ 64) wide64 9 Checkpoint id rest fits
 judged_again place (Reset second) rest fits = number_again w32 (2 ^ 32) wide32 5 Reset second rest fits
 judged_again place EndOfStream rest fits = refl
+
+-- the head of a message at the front
+pub head_again : (m : Message) (rest : List ℕ) → IsMessage m → payload_head (spelling m ++ rest) ≡ head_of m
+head_again (Payload t) rest fits =
+    let bytes = tuple_spelling t ++ rest in
+    let parts = parted (to_be_bytes w32 (hash_of t.key)) (to_be_bytes w16 (length t.key)) t.key (to_be_bytes w64 (cast_unsigned w64 t.value)) rest (length t.key) (wide32.len (hash_of t.key)) (wide16.len (length t.key)) refl (wide64.len (cast_unsigned w64 t.value)) in
+    let size : key_length_in bytes ≡ length t.key = ap (from_be_bytes w16) parts.second ∙ wide16.again (length t.key) (omega (arith, fits.short)) in
+    let number : number_in bytes ≡ hash_of t.key = ap (from_be_bytes w32) parts.first ∙ wide32.again (hash_of t.key) (hash_below 0 t.key (omega arith)) in
+    let there : ltb (length bytes) 6 ≡ false = le-ltb _ _ (omega (arith, length-tuple_spelling t, length-append (tuple_spelling t) rest)) in
+    let sized : 15 + key_length_in bytes ≡ length (spelling (Payload t)) = omega (arith, size, length-tuple_spelling t) in
+    ap (λ b. cond b None (Some (number_in bytes, 15 + key_length_in bytes))) there ∙ (λ i. Some (number i, sized i))
+head_again (Begin id) rest fits = refl
+head_again (End id) rest fits = refl
+head_again (Checkpoint id) rest fits = refl
+head_again (Reset second) rest fits = refl
+head_again EndOfStream rest fits = refl
 
 -- the same of what a reader returned
 pub is_found : (r : Judgement) (place : ℕ) (bytes : List ℕ) → AreBytes bytes → GivesMessage r (judged place bytes) → IfOk r (λ found. IfSome found (λ x. BeginsWith bytes x.0 x.1))

@@ -8,6 +8,7 @@ use Rattle.apx_codec.specs.KeyNumber.{hash_of}
 use Rattle.apx_tuple.specs.declared.tuple.Tuple.{Tuple}
 use Rattle.apx_wire.specs.declared.message.Message.{Message}
 use Rattle.apx_wire.specs.declared.message.Message.TheVariants.{Payload, Begin, End, Checkpoint, Reset, EndOfStream}
+use Rattle.apx_wire.specs.Spelling.{spelling}
 use Rattle.apx_wire.specs.declared.fault.WireFault.{WireFault}
 use Rattle.apx_wire.specs.declared.fault.WireFault.TheVariants.{BadType, BadKey, BadNumber, BadOrder, Memory}
 
@@ -55,6 +56,24 @@ judged place (kind ∷ bytes) =
     if kind == 5 then Ok (option_map (λ second. (Reset second, 5)) (field_in w32 bytes)) else
     if kind == 6 then Ok (Some (EndOfStream, 1)) else
     Err (BadType place)
+
+-- The number and the length of a payload, read from the front of its bytes before its key is; nothing where
+-- the bytes begin with no payload's type byte or its length isn't there.
+abbrev pub payload_head : List ℕ → Option (ℕ × ℕ)
+payload_head [] = None
+payload_head (kind ∷ bytes) =
+    if not (kind == 1) then None else
+    if nat_lt (length bytes) 6 then None else
+    Some (number_in bytes, 15 + key_length_in bytes)
+
+-- the number and the length of a message that is a payload
+abbrev pub head_of : Message → Option (ℕ × ℕ)
+head_of (Payload t) = Some (hash_of t.key, length (spelling (Payload t)))
+head_of (Begin _) = None
+head_of (End _) = None
+head_of (Checkpoint _) = None
+head_of (Reset _) = None
+head_of EndOfStream = None
 
 -- p holds, unless memory ran out
 abbrev pub UnlessMemory : WireFault → Type 0 → Type 0

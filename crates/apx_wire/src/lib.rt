@@ -5,7 +5,7 @@ pub use decoder::Decoder;
 pub use fault::WireFault;
 pub use laws::{no_spelling_begins_another, streams_have_one_reading};
 pub use message::Message;
-pub use reading::first_message;
+pub use reading::{first_message, payload_number};
 pub use writing::{write, write_payload};
 
 mod decoder;

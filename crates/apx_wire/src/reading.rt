@@ -3,7 +3,7 @@ ghost use Rattle.std.specs.Prelude.{◌≡◌, ◌≤◌, ◌++◌, ℕ, List, l
 ghost use Rattle.std.specs.Int.{w32, w64};
 ghost use Rattle.apx_wire.specs.declared.message.Message.{Message};
 ghost use Rattle.apx_wire.specs.Spelling.{IsMessage, BeginsWith, spelling};
-ghost use Rattle.apx_wire.specs.Judging.{judged, payload_judged, field_in, GivesMessage};
+ghost use Rattle.apx_wire.specs.Judging.{judged, payload_judged, payload_head, head_of, field_in, GivesMessage};
 
 use crate::fault::WireFault;
 use crate::message::Message;
@@ -26,6 +26,31 @@ pub fn first_message(
     ensures only { (m : Message) (rest : List ℕ) → IsMessage m → bytes.now ≡ spelling m ++ rest → GivesMessage result (Ok (Some (m, length (spelling m)))) }
 {
     judge(alloc, place, bytes)
+}
+
+/// The number of the payload that the bytes begin with, and how many bytes it has, with no key made. `None` where they
+/// begin with no payload.
+pub fn payload_number(bytes: &[u8]) -> Option<(u32, usize)>
+    ensures exact { result ≡ payload_head bytes.now }
+
+    // Of bytes that begin with a message it is that message's.
+    ensures only { (m : Message) (rest : List ℕ) → IsMessage m → bytes.now ≡ spelling m ++ rest → result ≡ head_of m }
+{
+    head(bytes)
+}
+
+fn head(bytes: &[u8]) -> Option<(u32, usize)>
+    ensures { result ≡ payload_head bytes.now }
+{
+    let [1, rest @ ..] = bytes else {
+        return None;
+    };
+    if rest.len() < 6 {
+        return None;
+    }
+    let number = u32::from_be_bytes([rest[0], rest[1], rest[2], rest[3]]);
+    let key_len = usize::from(u16::from_be_bytes([rest[4], rest[5]]));
+    Some((number, 15 + key_len))
 }
 
 #[tactic(auto, unfolding(crate::specs::Judging::judged))]

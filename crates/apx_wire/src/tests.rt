@@ -1,5 +1,5 @@
 //! The bytes of one window, cut in every way, and what is refused.
-use super::{Decoder, Message, WireFault, write};
+use super::{Decoder, Message, WireFault, payload_number, write};
 use apx_tuple::{Key, Tuple};
 use std::alloc::{AllocError, Global};
 use std::process::Abort;
@@ -224,4 +224,13 @@ fn payloads_come_inside_a_window_in_ascending_order(rt: HostRuntime) -> Result<(
         );
     }
     Ok(())
+}
+
+#[test]
+fn a_payload_tells_its_number_and_its_length(rt: HostRuntime) {
+    assert_eq!(rt; payload_number(&WINDOW[14..]), Some((97, 16)));
+    assert_eq!(rt; payload_number(&WINDOW[30..]), Some((98, 16)));
+    assert_eq!(rt; payload_number(&WINDOW[5..]), None);
+    assert_eq!(rt; payload_number(&WINDOW[14..20]), None);
+    assert_eq!(rt; payload_number(&[]), None);
 }

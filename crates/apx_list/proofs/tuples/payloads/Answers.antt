@@ -1,8 +1,9 @@
-use Rattle.std.proofs.Common.{◌∙◌}
-use Rattle.apx_list.specs.Block.{block_messages}
-use Rattle.apx_list.proofs.Left.{tuples_of-block}
+use Rattle.std.proofs.Common.{◌≡◌, ◌++◌, List, subst}
+use Rattle.std.specs.Prelude.{OnOk}
+use Rattle.apx_tuple.specs.declared.tuple.Tuple.{Tuple}
+use Rattle.apx_list.proofs.Left.{owned_all}
 use Rattle.apx_list.proofs.tuples.payloads.Goals as goal
 
-pub returns-else-is_err-clause-ok : goal.returns-else-is_err-clause-ok
-returns-else-is_err-clause-ok c = λ plan spells.
-    rw (← tuples_of-block plan c.args.block.now spells) (c.append_tuples-appended.ensures.ok (block_messages plan c.args.block.now spells.tuples spells.ends) spells.whole (c.as_slice.ensures ∙ spells.bytes))
+pub returns-clause-ok : goal.returns-clause-ok
+returns-clause-ok c = λ plan spells.
+    subst (λ (ts : List Tuple). OnOk c.owned_payloads.result (c.owned_payloads.new.into.items ≡ c.args.into.now.items ++ ts)) (owned_all spells.tuples) (c.owned_payloads.ensures.ok plan spells)

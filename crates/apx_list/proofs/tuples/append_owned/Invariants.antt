@@ -4,11 +4,11 @@ use Rattle.apx_wire.specs.declared.message.Message.{Message}
 use Rattle.apx_wire.specs.Spelling.{spellings}
 use Rattle.apx_list.specs.Block.{AreMessages}
 use Rattle.apx_list.specs.Tuples.{IsLeft}
-use Rattle.apx_list.proofs.tuples.append_tuples.Given as goal
+use Rattle.apx_list.proofs.tuples.append_owned.Given as goal
 
 abbrev pub invariant-loop-rest : goal.invariant-loop-rest
 invariant-loop-rest l = record {
-  left : (messages : List Message) → AreMessages messages → l.bytes ≡ spellings messages → IsLeft l.initial.into.items messages l.into.items l.rest;
+  left : (messages : List Message) → AreMessages messages → l.bytes ≡ spellings messages → IsLeft l.n l.i l.initial.into.items messages l.into.items l.rest;
   some : (more : List Tuple) × (l.into.items ≡ l.initial.into.items ++ more);
 }
 
