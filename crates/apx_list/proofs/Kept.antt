@@ -1,5 +1,5 @@
 -- What a list keeps of its numbers, when a block is appended or windows are purged.
-use Rattle.std.proofs.Common.{◌≡◌, ℕ, ◌+◌, ◌-◌, ◌^◌, ◌<◌, ◌≤◌, List, [], ◌∷◌, ◌++◌, length, refl, zero, suc, sym, ap, ◌∙◌, arith, true, false, ltb, Some, slice_get, get_or, append_assoc, length-append, drop, subst, inl, inr}
+use Rattle.std.proofs.Common.{◌≡◌, ℕ, ◌+◌, ◌-◌, ◌^◌, ◌<◌, ◌≤◌, List, [], ◌∷◌, ◌++◌, length, refl, zero, suc, sym, ap, ◌∙◌, arith, true, false, ltb, Option, Some, slice_get, get_or, append_assoc, length-append, drop, subst, inl, inr}
 use Rattle.std.proofs.Math.ListN.{get_or-append}
 use Rattle.std.proofs.Math.Seq.{get_or-append_seam}
 use Rattle.std.specs.Prelude.{IfSome, slice_index}
@@ -8,6 +8,7 @@ use Rattle.apx_list.specs.declared.plan.CutPlan.{CutPlan}
 use Rattle.apx_list.specs.declared.block.Block.{Block}
 use Rattle.apx_list.specs.Block.{Spells, AllSpell}
 use Rattle.apx_list.specs.Listed.{before, IsWithin, IsKept, AreUpTo, AreAbove}
+use Rattle.apx_list.proofs.Row.{row_goes_on, row_ends, row_purged, named_more, named_rest}
 
 pub before-append : (window : ℕ) (xs ys : List Block) → before window (xs ++ ys) ≡ before window xs + before window ys
 before-append window [] ys = omega arith
@@ -51,13 +52,15 @@ pub length_one : (blocks : List Block) (block : Block) → length (blocks ++ blo
 length_one blocks block = simp length-append
 
 -- a window that goes on
-pub kept_in_window : (plan : CutPlan) (floor top first : ℕ) (blocks : List Block) (from : ℕ) (starts : List ℕ) (next_start : ℕ) (block : Block) → IsKept plan floor top first blocks from starts next_start → block.window ≡ top + 1 → before (top + 1) blocks + block.index ≡ length blocks → block.index < 2 ^ 32 → Spells plan block → IsKept plan floor top first (blocks ++ block ∷ []) from starts next_start
-kept_in_window plan floor top first blocks from starts next_start block kept window index fits spells = record {
+pub kept_in_window : (told : Option (List Block)) (plan : CutPlan) (floor top first : ℕ) (blocks : List Block) (from : ℕ) (starts : List ℕ) (next_start : ℕ) (block : Block) → IsKept told plan floor top first blocks from starts next_start → block.window ≡ top + 1 → before (top + 1) blocks + block.index ≡ length blocks → block.index < 2 ^ 32 → Spells plan block → block.last ≡ false → IfSome told (λ all. slice_get all (first + length blocks) ≡ Some block) → IsKept told plan floor top first (blocks ++ block ∷ []) from starts next_start
+kept_in_window told plan floor top first blocks from starts next_start block kept window index fits spells goes_on named = record {
   plan_is = kept.plan_is;
   floor_below = kept.floor_below;
   top_below = kept.top_below;
   spelled = AllSpell-append plan blocks block kept.spelled spells;
   within = IsWithin-append (floor + 1) (top + 1) blocks block kept.within (omega (arith, kept.floor_below)) window;
+  row = row_goes_on floor top blocks block kept.row window index goes_on (not_before top (top + 1) blocks block window (omega arith));
+  named = named_more told first blocks block kept.named named;
   from_below = kept.from_below;
   count = kept.count;
   start = λ w above below. kept.start w above below ∙ ap (λ n. first + n) (sym (not_before top w blocks block window (omega arith)));
@@ -81,8 +84,8 @@ start_kept floor top first blocks from starts next_start block is from_below cou
     ]
 
 -- a window that ends
-pub kept_at_end : (plan : CutPlan) (floor top first : ℕ) (blocks : List Block) (from : ℕ) (starts : List ℕ) (next_start : ℕ) (block : Block) → IsKept plan floor top first blocks from starts next_start → block.window ≡ top + 1 → block.window ≤ plan.windows → before (top + 1) blocks + block.index ≡ length blocks → block.index < 2 ^ 32 → Spells plan block → IsKept plan floor (top + 1) first (blocks ++ block ∷ []) from (starts ++ next_start ∷ []) (first + length (blocks ++ block ∷ []))
-kept_at_end plan floor top first blocks from starts next_start block kept window there index fits spells =
+pub kept_at_end : (told : Option (List Block)) (plan : CutPlan) (floor top first : ℕ) (blocks : List Block) (from : ℕ) (starts : List ℕ) (next_start : ℕ) (block : Block) → IsKept told plan floor top first blocks from starts next_start → block.window ≡ top + 1 → block.window ≤ plan.windows → before (top + 1) blocks + block.index ≡ length blocks → block.index < 2 ^ 32 → Spells plan block → block.last ≡ true → IfSome told (λ all. slice_get all (first + length blocks) ≡ Some block) → IsKept told plan floor (top + 1) first (blocks ++ block ∷ []) from (starts ++ next_start ∷ []) (first + length (blocks ++ block ∷ []))
+kept_at_end told plan floor top first blocks from starts next_start block kept window there index fits spells ends named =
     let inside = IsWithin-append (floor + 1) (top + 1) blocks block kept.within (omega (arith, kept.floor_below)) window in
     record {
       plan_is = kept.plan_is;
@@ -90,6 +93,8 @@ kept_at_end plan floor top first blocks from starts next_start block kept window
       top_below = omega (arith, there, window);
       spelled = AllSpell-append plan blocks block kept.spelled spells;
       within = IsWithin-higher (floor + 1) (top + 1) (top + 1 + 1) (blocks ++ block ∷ []) inside (omega arith);
+      row = row_ends floor top blocks block kept.row window index ends (before-all (floor + 1) (top + 1) (top + 1 + 1) (blocks ++ block ∷ []) inside (omega arith));
+      named = named_more told first blocks block kept.named named;
       from_below = kept.from_below;
       count = omega (arith, kept.count, length-append starts (next_start ∷ []));
       start = start_kept floor top first blocks from starts next_start block window kept.from_below kept.count kept.start kept.next;
@@ -122,8 +127,8 @@ within_rest low high to old new gone h split front =
     let rest = IsWithin-rest low high gone new (rw (← split) h) in
     IsWithin-front rest.0 high to new rest.1 front
 
-pub kept_purged : (plan : CutPlan) (floor top first : ℕ) (blocks : List Block) (from : ℕ) (starts : List ℕ) (next_start to : ℕ) (gone rest : List Block) → IsKept plan floor top first blocks from starts next_start → floor ≤ to → to ≤ top → blocks ≡ gone ++ rest → AreUpTo to gone → IfSome (slice_get rest 0) (λ block. to < block.window) → IsKept plan to top (first + length gone) rest from starts next_start
-kept_purged plan floor top first blocks from starts next_start to gone rest kept low high split are_gone front =
+pub kept_purged : (told : Option (List Block)) (plan : CutPlan) (floor top first : ℕ) (blocks : List Block) (from : ℕ) (starts : List ℕ) (next_start to : ℕ) (gone rest : List Block) → IsKept told plan floor top first blocks from starts next_start → floor ≤ to → to ≤ top → blocks ≡ gone ++ rest → AreUpTo to gone → IfSome (slice_get rest 0) (λ block. to < block.window) → IsKept told plan to top (first + length gone) rest from starts next_start
+kept_purged told plan floor top first blocks from starts next_start to gone rest kept low high split are_gone front =
     let less : (window : ℕ) → to < window → before window blocks ≡ length gone + before window rest = λ window lt. rw split (before-gone to window gone rest are_gone lt) in
     record {
       plan_is = kept.plan_is;
@@ -131,6 +136,8 @@ kept_purged plan floor top first blocks from starts next_start to gone rest kept
       top_below = kept.top_below;
       spelled = AllSpell-rest plan gone rest (rw (← split) kept.spelled);
       within = within_rest (floor + 1) (top + 1) to blocks rest gone kept.within split front;
+      row = row_purged floor top to blocks gone rest kept.row low high split are_gone (less (top + 1) (omega arith)) front;
+      named = named_rest told first blocks gone rest kept.named split;
       from_below = omega (arith, kept.from_below);
       count = kept.count;
       start = λ window above below. kept.start window (omega arith) below ∙ omega (arith, less window above);

@@ -1,7 +1,7 @@
 -- The blocks of a cut spell what they say.
-use Rattle.std.proofs.Common.{◌≡◌, ℕ, ◌+◌, ◌-◌, ◌^◌, ◌<◌, ◌≤◌, List, [], ◌∷◌, ◌++◌, length, map, refl, sym, ap, subst, ◌∙◌, arith, Bool, true, false, cond, eqb, leb, Option, Some, slice_get, append_assoc, length-append, inl, inr}
+use Rattle.std.proofs.Common.{◌≡◌, ℕ, ◌+◌, ◌-◌, ◌^◌, ◌<◌, ◌≤◌, List, [], ◌∷◌, ◌++◌, length, map, refl, sym, ap, subst, ◌∙◌, arith, Bool, true, false, cond, eqb, leb, eq-eqb, Option, Some, slice_get, append_assoc, length-append, inl, inr}
 use Rattle.std.proofs.lemmas.List.{map-append, append-nil}
-use Rattle.std.proofs.lemmas.Bool.{le-leb, eqb-true, ne_eqb}
+use Rattle.std.proofs.lemmas.Bool.{le-leb, ne_eqb}
 use Rattle.std.proofs.Math.Seq.{get_or-append_seam}
 use Rattle.apx_order.specs.Sorted.{IsAscending, IsFloor}
 use Rattle.apx_tuple.specs.declared.tuple.Tuple.{Tuple}
@@ -16,6 +16,7 @@ use Rattle.apx_list.specs.declared.block.Block.{Block}
 use Rattle.apx_list.specs.Plan.{IsPlan, IsWindow}
 use Rattle.apx_list.specs.Messages.{opening, closing, reset, checkpoint, stop, id_of, messages_of}
 use Rattle.apx_list.specs.Block.{AreMessages, AreSome, Spells, AllSpell}
+use Rattle.apx_list.specs.Window.{IsAt, SpellRest, SpellWindow}
 use Rattle.apx_list.specs.Cut.{pieces_from, pieces_of, numbered, blocks_of}
 use Rattle.apx_list.proofs.Kept.{slice_get-is}
 
@@ -76,9 +77,20 @@ front_of plan window index tuples = cond (eqb index 0) (opening plan window) [] 
 abbrev block_at : ℕ → ℕ → ℕ → List ℕ → Block
 block_at window count index piece = record { window = window; index = index; last = eqb (index + 1) count; bytes = piece }
 
--- what the blocks of some pieces do
-abbrev NumberedSpell : CutPlan → ℕ → ℕ → ℕ → List (List ℕ) → Type 0
-NumberedSpell plan window count index pieces = count ≡ index + length pieces → AllSpell plan (numbered window count index pieces)
+-- what the blocks of some pieces do, with these tuples
+abbrev NumberedSpell : CutPlan → ℕ → ℕ → ℕ → List Tuple → List (List ℕ) → Type 0
+NumberedSpell plan window count index tuples pieces = count ≡ index + length pieces → SpellRest plan window index (numbered window count index pieces) tuples
+
+-- a block in front of others of its window
+rest_more : (plan : CutPlan) (window index : ℕ) (block : Block) (blocks : List Block) (tuples rest : List Tuple) (spells : Spells plan block) → tuples ≡ spells.tuples ++ rest → IsAt window index false block → SpellRest plan window (index + 1) blocks rest → SpellRest plan window index (block ∷ blocks) tuples
+rest_more plan window index block [] tuples rest spells is at h = absurd h
+rest_more plan window index block (next ∷ blocks) tuples rest spells is at h = (at, spells, rest, is, h)
+
+-- each of them spells what it says
+rest_spells : (plan : CutPlan) (window index : ℕ) (blocks : List Block) (tuples : List Tuple) → SpellRest plan window index blocks tuples → AllSpell plan blocks
+rest_spells plan window index [] tuples h = absurd h
+rest_spells plan window index (block ∷ []) tuples h = (h.1, tt)
+rest_spells plan window index (block ∷ next ∷ blocks) tuples h = (h.1, rest_spells plan window (index + 1) (next ∷ blocks) h.2 h.4)
 
 choose : (fits : Bool) (P : List (List ℕ) → Type 0) (joined begun : List (List ℕ)) → P joined → P begun → P (cond fits joined begun)
 choose true P joined begun p q = p
@@ -96,7 +108,7 @@ record IsPiece (plan : CutPlan) (window index : ℕ) (piece : List ℕ) (tuples 
   pub some : 0 < length (front_of plan window index tuples ++ ends)
   pub bytes : piece ≡ spellings (front_of plan window index tuples ++ ends)
 
-spells : (plan : CutPlan) (window count index : ℕ) (piece : List ℕ) (tuples : List Tuple) (ends done rest : List Message) → closing plan window ≡ done ++ rest → (eqb (index + 1) count ≡ true → rest ≡ []) → IsPiece plan window index piece tuples ends done → Spells plan (block_at window count index piece)
+abbrev spells : (plan : CutPlan) (window count index : ℕ) (piece : List ℕ) (tuples : List Tuple) (ends done rest : List Message) → closing plan window ≡ done ++ rest → (eqb (index + 1) count ≡ true → rest ≡ []) → IsPiece plan window index piece tuples ends done → Spells plan (block_at window count index piece)
 spells plan window count index piece tuples ends done rest split marked is = record {
   tuples = tuples;
   ends = ends;
@@ -117,8 +129,8 @@ pieces_some size piece (m ∷ messages) =
     choose (leb (length piece + length m) size) (λ ps. 0 < length ps) (pieces_from size (piece ++ m) messages) (piece ∷ pieces_from size m messages) (pieces_some size (piece ++ m) messages) (omega arith)
 
 -- a piece with another one behind it isn't the last
-not_last : (X : Type 0) (count index : ℕ) (behind : List (List ℕ)) → 0 < length behind → count ≡ index + (length behind + 1) → eqb (index + 1) count ≡ true → X
-not_last X count index behind some counted marked = absurd (omega (arith, some, counted, eqb-true (index + 1) count marked))
+not_last : (count index : ℕ) (behind : List (List ℕ)) → 0 < length behind → count ≡ index + (length behind + 1) → eqb (index + 1) count ≡ false
+not_last count index behind some counted = ne_eqb (index + 1) count (λ e. omega (arith, some, counted, e))
 
 -- a closing message that goes into the piece
 joins : (plan : CutPlan) (window index : ℕ) (piece : List ℕ) (tuples : List Tuple) (ends done : List Message) (m : Message) → IsMessage m → IsPiece plan window index piece tuples ends done → IsPiece plan window index (piece ++ spelling m) tuples (ends ++ m ∷ []) (done ++ m ∷ [])
@@ -144,18 +156,23 @@ opens plan window index done m fits = record {
   bytes = rw (first_isnt index) (sym (append-nil (spelling m)));
 }
 
-in_closing : (plan : CutPlan) (window size count : ℕ) (rest : List Message) (index : ℕ) (piece : List ℕ) (tuples : List Tuple) (ends done : List Message) → closing plan window ≡ done ++ rest → AreMessages rest → IsPiece plan window index piece tuples ends done → NumberedSpell plan window count index (pieces_from size piece (map spelling rest))
+in_closing : (plan : CutPlan) (window size count : ℕ) (rest : List Message) (index : ℕ) (piece : List ℕ) (tuples : List Tuple) (ends done : List Message) → closing plan window ≡ done ++ rest → AreMessages rest → IsPiece plan window index piece tuples ends done → NumberedSpell plan window count index tuples (pieces_from size piece (map spelling rest))
 in_closing plan window size count [] index piece tuples ends done split whole is =
-    λ counted. (spells plan window count index piece tuples ends done [] split (λ _. refl) is, tt)
+    λ counted.
+    let marked : eqb (index + 1) count ≡ true = eq-eqb (index + 1) count (sym counted) in
+    ((refl, refl, marked), spells plan window count index piece tuples ends done [] split (λ _. refl) is, refl)
 in_closing plan window size count (m ∷ rest) index piece tuples ends done split whole is =
     let next : closing plan window ≡ (done ++ m ∷ []) ++ rest = split ∙ sym (append_assoc done (m ∷ []) rest) in
     let behind = pieces_from size (spelling m) (map spelling rest) in
-    choose (leb (length piece + length (spelling m)) size) (NumberedSpell plan window count index) (pieces_from size (piece ++ spelling m) (map spelling rest)) (piece ∷ behind)
+    choose (leb (length piece + length (spelling m)) size) (NumberedSpell plan window count index tuples) (pieces_from size (piece ++ spelling m) (map spelling rest)) (piece ∷ behind)
     (in_closing plan window size count rest index (piece ++ spelling m) tuples (ends ++ m ∷ []) (done ++ m ∷ []) next whole.1 (joins plan window index piece tuples ends done m whole.0 is))
-    (λ counted. (
-      spells plan window count index piece tuples ends done (m ∷ rest) split (not_last _ count index behind (pieces_some size (spelling m) (map spelling rest)) (omega (arith, counted))) is,
-      in_closing plan window size count rest (index + 1) (spelling m) [] (m ∷ []) (done ++ m ∷ []) next whole.1 (opens plan window index done m whole.0) (omega (arith, counted)),
-    ))
+    (λ counted.
+    let unmarked = not_last count index behind (pieces_some size (spelling m) (map spelling rest)) (omega (arith, counted)) in
+    rest_more plan window index (block_at window count index piece) (numbered window count (index + 1) behind) tuples []
+    (spells plan window count index piece tuples ends done (m ∷ rest) split (λ marked. absurd (cc (marked, unmarked))) is)
+    (sym (append-nil tuples))
+    (refl, refl, unmarked)
+    (in_closing plan window size count rest (index + 1) (spelling m) [] (m ∷ []) (done ++ m ∷ []) next whole.1 (opens plan window index done m whole.0) (omega (arith, counted))))
 
 -- a current piece whose last message opens the window or is a tuple, with the tuples that come after it
 record IsFront (plan : CutPlan) (window index : ℕ) (piece : List ℕ) (tuples left : List Tuple) : Type 0 where
@@ -196,17 +213,20 @@ tuple_opens plan window index piece tuples t left fits is = record {
   bytes = rw (first_isnt index) (sym (append-nil (spelling (Payload t))));
 }
 
-in_tuples : (plan : CutPlan) (window size count : ℕ) (left : List Tuple) (index : ℕ) (piece : List ℕ) (tuples : List Tuple) → AreMessages (map Payload left) → AreMessages (closing plan window) → IsFront plan window index piece tuples left → NumberedSpell plan window count index (pieces_from size piece (map spelling (map Payload left ++ closing plan window)))
+in_tuples : (plan : CutPlan) (window size count : ℕ) (left : List Tuple) (index : ℕ) (piece : List ℕ) (tuples : List Tuple) → AreMessages (map Payload left) → AreMessages (closing plan window) → IsFront plan window index piece tuples left → NumberedSpell plan window count index (tuples ++ left) (pieces_from size piece (map spelling (map Payload left ++ closing plan window)))
 in_tuples plan window size count [] index piece tuples fit closes is =
-    in_closing plan window size count (closing plan window) index piece tuples [] [] refl closes (as_piece plan window index piece tuples [] is)
+    rw (append-nil tuples) (in_closing plan window size count (closing plan window) index piece tuples [] [] refl closes (as_piece plan window index piece tuples [] is))
 in_tuples plan window size count (t ∷ left) index piece tuples fit closes is =
     let behind = pieces_from size (spelling (Payload t)) (map spelling (map Payload left ++ closing plan window)) in
-    choose (leb (length piece + length (spelling (Payload t))) size) (NumberedSpell plan window count index) (pieces_from size (piece ++ spelling (Payload t)) (map spelling (map Payload left ++ closing plan window))) (piece ∷ behind)
-    (in_tuples plan window size count left index (piece ++ spelling (Payload t)) (tuples ++ t ∷ []) fit.1 closes (tuple_joins plan window index piece tuples t left fit.0 is))
-    (λ counted. (
-      spells plan window count index piece tuples [] [] (closing plan window) refl (not_last _ count index behind (pieces_some size (spelling (Payload t)) (map spelling (map Payload left ++ closing plan window))) (omega (arith, counted))) (as_piece plan window index piece tuples (t ∷ left) is),
-      in_tuples plan window size count left (index + 1) (spelling (Payload t)) (t ∷ []) fit.1 closes (tuple_opens plan window index piece tuples t left fit.0 is) (omega (arith, counted)),
-    ))
+    choose (leb (length piece + length (spelling (Payload t))) size) (NumberedSpell plan window count index (tuples ++ t ∷ left)) (pieces_from size (piece ++ spelling (Payload t)) (map spelling (map Payload left ++ closing plan window))) (piece ∷ behind)
+    (subst (λ (ts : List Tuple). NumberedSpell plan window count index ts (pieces_from size (piece ++ spelling (Payload t)) (map spelling (map Payload left ++ closing plan window)))) (append_assoc tuples (t ∷ []) left) (in_tuples plan window size count left index (piece ++ spelling (Payload t)) (tuples ++ t ∷ []) fit.1 closes (tuple_joins plan window index piece tuples t left fit.0 is)))
+    (λ counted.
+    let unmarked = not_last count index behind (pieces_some size (spelling (Payload t)) (map spelling (map Payload left ++ closing plan window))) (omega (arith, counted)) in
+    rest_more plan window index (block_at window count index piece) (numbered window count (index + 1) behind) (tuples ++ t ∷ left) (t ∷ left)
+    (spells plan window count index piece tuples [] [] (closing plan window) refl (λ marked. absurd (cc (marked, unmarked))) (as_piece plan window index piece tuples (t ∷ left) is))
+    refl
+    (refl, refl, unmarked)
+    (in_tuples plan window size count left (index + 1) (spelling (Payload t)) (t ∷ []) fit.1 closes (tuple_opens plan window index piece tuples t left fit.0 is) (omega (arith, counted))))
 
 -- ---- the whole window
 
@@ -246,10 +266,10 @@ begun_some : (b : Bool) (second id : ℕ) → 0 < length (cond b (Reset second �
 begun_some true second id = omega arith
 begun_some false second id = omega arith
 
--- each block of a window's cut spells what it says
-pub blocks_spell : (plan : CutPlan) (window : ℕ) (tuples : List Tuple) → IsPlan plan → IsWindow plan window → IsAscending tuple_order tuples → AreMessages (map Payload tuples) → AllSpell plan (blocks_of plan window tuples)
+-- the blocks of a window's cut spell the window
+pub window_spelled : (plan : CutPlan) (window : ℕ) (tuples : List Tuple) → IsPlan plan → IsWindow plan window → IsAscending tuple_order tuples → AreMessages (map Payload tuples) → SpellWindow plan window (blocks_of plan window tuples) tuples
 unfolding blocks_of
-blocks_spell plan window tuples is in_run ascends fit =
+window_spelled plan window tuples is in_run ascends fit =
     let pieces = pieces_from plan.size (spellings (opening plan window)) (map spelling (map Payload tuples ++ closing plan window)) in
     let grouped : messages_of plan window tuples ≡ opening plan window ++ (map Payload tuples ++ closing plan window) = append_assoc (opening plan window) (map Payload tuples) (closing plan window) in
     let first : pieces_of plan window tuples ≡ pieces = ap (λ ms. pieces_from plan.size [] (map spelling ms)) grouped ∙ opened_with (eqb (counter_of window) 0) plan.size (second_of plan.base window) (id_of plan window) (map Payload tuples ++ closing plan window) is.size_least in
@@ -261,3 +281,7 @@ blocks_spell plan window tuples is in_run ascends fit =
       bytes = rw alone refl;
     } in
     rw first (in_tuples plan window plan.size (length pieces) tuples 0 (spellings (opening plan window)) [] fit (AreMessages-closing plan window is in_run) front (omega arith))
+
+-- each of them spells what it says
+pub blocks_spell : (plan : CutPlan) (window : ℕ) (tuples : List Tuple) → IsPlan plan → IsWindow plan window → IsAscending tuple_order tuples → AreMessages (map Payload tuples) → AllSpell plan (blocks_of plan window tuples)
+blocks_spell plan window tuples is in_run ascends fit = rest_spells plan window 0 (blocks_of plan window tuples) tuples (window_spelled plan window tuples is in_run ascends fit)

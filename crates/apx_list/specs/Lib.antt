@@ -6,3 +6,4 @@ pub mod Messages
 pub mod Plan
 pub mod Reads
 pub mod Tuples
+pub mod Window

@@ -39,6 +39,42 @@ abbrev pub IsWithin : ℕ → ℕ → List Block → Type 0
 IsWithin low high [] = Unit {0}
 IsWithin low high (block ∷ blocks) = (low ≤ block.window) × (block.window ≤ high) × IsWithin block.window high blocks
 
+-- the window and the index of the block that comes behind one
+abbrev pub window_after : Block → ℕ
+window_after block = if block.last then block.window + 1 else block.window
+
+-- the index of the block that comes behind one
+abbrev pub index_after : Block → ℕ
+index_after block = if block.last then 0 else block.index + 1
+
+-- The first of the blocks has this window and this index. Each other one is the next of its window, or block 0 of
+-- the window after where the one before it is a last block.
+abbrev pub AreConsecutive : ℕ → ℕ → List Block → Type 0
+AreConsecutive window index [] = Unit {0}
+AreConsecutive window index (block ∷ blocks) =
+    (block.window ≡ window) × (block.index ≡ index) × AreConsecutive (window_after block) (index_after block) blocks
+
+-- the window of the block that comes behind blocks; this one, where there are none
+abbrev pub next_window : ℕ → List Block → ℕ
+next_window window [] = window
+next_window window (block ∷ blocks) = next_window (window_after block) blocks
+
+-- the index of the block that comes behind blocks; this one, where there are none
+abbrev pub next_index : ℕ → List Block → ℕ
+next_index index [] = index
+next_index index (block ∷ blocks) = next_index (index_after block) blocks
+
+-- The blocks of a list are in order, from block 0 of the window after floor on. The next one is of the window after
+-- top, and has as its index how many of them are of that window.
+pub record IsRow (floor top : ℕ) (blocks : List Block) : Type 0 where
+  pub order : AreConsecutive (floor + 1) 0 blocks
+  pub window : next_window (floor + 1) blocks ≡ top + 1
+  pub index : before (top + 1) blocks + next_index 0 blocks ≡ length blocks
+
+-- from a number on, these blocks are those of all
+abbrev pub AreNamed : List Block → ℕ → List Block → Type 0
+AreNamed all first blocks = (k : ℕ) → k < length blocks → slice_get all (first + k) ≡ slice_get blocks k
+
 -- The block may be appended: it is the next one of the window after top, it spells what it says, and it is
 -- the one at its number where the name tells the blocks of the list.
 pub record IsNext {N : Type 0} (named : N → Option (List Block)) (list : Listed N) (block : Block) : Type 0 where
@@ -83,13 +119,15 @@ start_of list window =
     then Some (list.first + before window list.blocks)
     else None
 
--- What a list keeps of its numbers beside its blocks.
-pub record IsKept (plan : CutPlan) (floor top first : ℕ) (blocks : List Block) (from : ℕ) (starts : List ℕ) (next_start : ℕ) : Type 0 where
+-- What a list keeps of its numbers beside its blocks, and of the blocks that its name tells.
+pub record IsKept (told : Option (List Block)) (plan : CutPlan) (floor top first : ℕ) (blocks : List Block) (from : ℕ) (starts : List ℕ) (next_start : ℕ) : Type 0 where
   pub plan_is : IsPlan plan
   pub floor_below : floor ≤ top
   pub top_below : top ≤ plan.windows
   pub spelled : AllSpell plan blocks
   pub within : IsWithin (floor + 1) (top + 1) blocks
+  pub row : IsRow floor top blocks
+  pub named : IfSome told (λ all. AreNamed all first blocks)
   pub from_below : from ≤ floor
   pub count : length starts + from ≡ top
   pub start : (window : ℕ) → floor < window → window ≤ top → slice_index starts (window - from - 1) ≡ first + before window blocks

@@ -5,6 +5,7 @@ ghost use Rattle.apx_wire.specs.declared.message.Message.TheVariants.{Payload};
 ghost use Rattle.apx_wire.specs.Spelling.{IsTuple};
 ghost use Rattle.apx_list.specs.Plan.{IsPlan, IsWindow};
 ghost use Rattle.apx_list.specs.Block.{AreMessages, AllSpell};
+ghost use Rattle.apx_list.specs.Window.{SpellWindow};
 ghost use Rattle.apx_list.specs.Messages.{reset, opening, closing};
 ghost use Rattle.apx_list.specs.Cut.{pieces_of, numbered, blocks_of};
 ghost use Rattle.apx_list.specs.Cutter.{pieces_with, Adds, Settles};
@@ -24,6 +25,7 @@ pub fn cut(alloc: Global, plan: &CutPlan, window: u32, bag: &Bag) -> Result<Vec<
     requires window { IsWindow plan.now window }
     ensures blocks { IfOk result (λ blocks. blocks.items ≡ blocks_of plan.now window bag.now) }
     ensures spell { IfOk result (λ blocks. AllSpell plan.now blocks.items) }
+    ensures window { IfOk result (λ blocks. SpellWindow plan.now window blocks.items bag.now) }
 {
     number(alloc, window, pieces(alloc, plan, window, bag.tuples())?)
 }

@@ -5,7 +5,7 @@ pub use block::Block;
 pub use cutting::cut;
 pub use list::{DataList, ListFault, Naming, Read};
 pub use plan::CutPlan;
-pub use tuples::payloads;
+pub use tuples::{owned_payloads, payloads};
 
 mod block;
 mod cutting;

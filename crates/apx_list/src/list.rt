@@ -1,7 +1,7 @@
 //! The numbered list of a partition's blocks, from which its readers take them.
-ghost use Rattle.std.specs.Prelude.{◌≡◌, ◌≤◌, [], List, Option, OnOk, OnErr};
+ghost use Rattle.std.specs.Prelude.{◌≡◌, ◌≤◌, ◌+◌, ◌*◌, ◌^◌, [], List, Option, OnOk, OnErr};
 ghost use Rattle.apx_list.specs.Plan.{IsPlan};
-ghost use Rattle.apx_list.specs.Listed.{IsNext, with_block, next_number, IsPurged, IsDropped, start_of};
+ghost use Rattle.apx_list.specs.Listed.{IsNext, with_block, next_number, IsRow, IsPurged, IsDropped, start_of};
 ghost use Rattle.apx_list.specs.Reads.{GivesBlock};
 
 use crate::block::Block;
@@ -75,7 +75,7 @@ impl<S: Spool + Drop, N: Naming + Drop> Model for DataList<S, N> {
 
     ghost view = { λ list. record { name = list.name; plan = list.plan; floor = list.floor; top = list.top; first = list.first; blocks = list.blocks.items } };
 
-    ghost invariant = { λ list. IsKept list.plan list.floor list.top list.first list.blocks.items list.from list.starts.items list.next_start };
+    ghost invariant = { λ list. IsKept (N.named list.name) list.plan list.floor list.top list.first list.blocks.items list.from list.starts.items list.next_start };
 }
 
 impl<S: Spool + Drop, N: Naming + Drop> DataList<S, N> {
@@ -99,6 +99,31 @@ impl<S: Spool + Drop, N: Naming + Drop> DataList<S, N> {
         }
     }
 
+    /// The last window that was purged; where none was, the one before the list's first.
+    pub fn floor(&self) -> u32
+        ensures floor { result ≡ self.now.floor }
+        ensures below { self.now.floor ≤ self.now.top }
+    {
+        self.floor
+    }
+
+    /// The last window that is whole; where none is, the one before the list's first.
+    pub fn top(&self) -> u32
+        ensures top { result ≡ self.now.top }
+        ensures below { self.now.top ≤ self.now.plan.windows }
+    {
+        self.top
+    }
+
+    /// The number of the block that comes next: how many blocks were appended.
+    pub fn next(&self) -> u64
+        ensures next { result ≡ next_number self.now }
+        ensures few { result ≤ (self.now.top + 1) * 2 ^ 32 }
+        ensures row { IsRow self.now.floor self.now.top self.now.blocks }
+    {
+        self.first + self.blocks.len() as u64
+    }
+
     /// Appends the next block. A refused one is dropped.
     pub fn append(&mut self, block: Block) -> Result<(), AllocError>
         requires { IsNext N.named self.old block }
@@ -120,7 +145,7 @@ impl<S: Spool + Drop, N: Naming + Drop> DataList<S, N> {
     pub fn read(&mut self, place: u64) -> Result<Read, ListFault<S::Fault>>
         requires kept { self.old.first ≤ place }
         requires there { place ≤ next_number self.old }
-        ensures read { GivesBlock self.old place result }
+        ensures read { GivesBlock S.tells (N.named self.old.name) self.old place result }
         ensures list { self.new ≡ self.old }
     {
         let Some(block) = self.blocks.get((place - self.first) as usize) else {

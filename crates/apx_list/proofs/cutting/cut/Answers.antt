@@ -3,9 +3,10 @@ use Rattle.std.specs.declared.alloc.Global.{Global}
 use Rattle.std.proofs.lemmas.List.{length-map}
 use Rattle.apx_list.specs.Cut.{blocks_of, pieces_of}
 use Rattle.apx_list.proofs.Pieces.{pieces_of-fits, if_ok}
-use Rattle.apx_list.proofs.Spelled.{blocks_spell}
+use Rattle.apx_list.proofs.Spelled.{blocks_spell, window_spelled}
 use Rattle.apx_list.specs.declared.block.Block.{Block}
 use Rattle.apx_list.specs.Block.{AllSpell, AreMessages}
+use Rattle.apx_list.specs.Window.{SpellWindow}
 use Rattle.apx_tuple.specs.Tuple.{IsBag}
 use Rattle.apx_wire.specs.declared.message.Message.TheVariants.{Payload}
 use Rattle.apx_list.proofs.cutting.cut.Goals as goal
@@ -30,3 +31,9 @@ returns-clause-spell c =
     let fit : AreMessages (map Payload c.args.bag.now) = rw (← c.tuples.ensures.tuples) c.in_ok-pieces.ensures.fit in
     let bag : IsBag c.args.bag.now = c.tuples.ensures.bag in
     if_ok c.number.result (λ (blocks : Vec Block Global). blocks.items ≡ blocks_of c.args.plan.now c.args.window c.args.bag.now) (λ (blocks : Vec Block Global). AllSpell c.args.plan.now blocks.items) (λ blocks same. rw same (blocks_spell c.args.plan.now c.args.window c.args.bag.now c.requires.plan c.requires.window bag.ascends fit)) (returns-clause-blocks c)
+
+pub returns-clause-window : goal.returns-clause-window
+returns-clause-window c =
+    let fit : AreMessages (map Payload c.args.bag.now) = rw (← c.tuples.ensures.tuples) c.in_ok-pieces.ensures.fit in
+    let bag : IsBag c.args.bag.now = c.tuples.ensures.bag in
+    if_ok c.number.result (λ (blocks : Vec Block Global). blocks.items ≡ blocks_of c.args.plan.now c.args.window c.args.bag.now) (λ (blocks : Vec Block Global). SpellWindow c.args.plan.now c.args.window blocks.items c.args.bag.now) (λ blocks same. rw same (window_spelled c.args.plan.now c.args.window c.args.bag.now c.requires.plan c.requires.window bag.ascends fit)) (returns-clause-blocks c)

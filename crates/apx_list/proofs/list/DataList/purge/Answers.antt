@@ -6,7 +6,7 @@ pub invariant_of-self : goal.invariant_of-self
 invariant_of-self g c =
     let owed = rw (← c.self.view_is) at c.requires in
     let dropped = c.drop_front.ensures in
-    rw dropped.count_is (kept_purged c.self.inside.plan c.self.inside.floor c.self.inside.top c.self.inside.first c.self.inside.blocks.items c.self.inside.from c.self.inside.starts.items c.self.inside.next_start c.args.to dropped.gone c.drop_front.new.blocks.items c.self.invariant owed.floor owed.top dropped.split dropped.are_gone dropped.front)
+    rw dropped.count_is (kept_purged (g.N.Naming.named c.self.inside.name) c.self.inside.plan c.self.inside.floor c.self.inside.top c.self.inside.first c.self.inside.blocks.items c.self.inside.from c.self.inside.starts.items c.self.inside.next_start c.args.to dropped.gone c.drop_front.new.blocks.items c.self.invariant owed.floor owed.top dropped.split dropped.are_gone dropped.front)
 
 pub returns : goal.returns
 returns g c =
