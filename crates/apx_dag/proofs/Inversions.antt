@@ -2,7 +2,8 @@
 use Rattle.std.proofs.Common.{◌≡◌, ℕ, List, Option, Some, None, Ok, Err, refl}
 use Rattle.std.specs.Prelude.{⊤}
 use Rattle.apx_json.specs.Texts.{Application}
-use Rattle.apx_dag.specs.Checks.{Checked, ◌>>=◌, unless}
+use Rattle.apx_json.specs.Checks.{◌>>=◌}
+use Rattle.apx_dag.specs.Checks.{Checked, unless}
 use Rattle.apx_dag.specs.Rules.{before_cycles, after_cycles, too_many, name_again, unknown_class, wrong_properties, no_port, port_again, unused_port, no_store, second_store, wrong_partitions, partitioned_end, wrong_sinks, bad_name, wrong_windows, gathering_end}
 
 bind_ok : (c : Checked) (f : ⊤ → Checked) → (c >>= f) ≡ Ok tt → (c ≡ Ok tt) × (f tt ≡ Ok tt)

@@ -1,5 +1,6 @@
 -- Checks that refuse by the first rule that is broken.
 use Rattle.std.specs.Prelude.{◌≡◌, ℕ, List, Option, Some, None, Result, Ok, Err, ⊤}
+use Rattle.apx_json.specs.Checks as checks
 use Rattle.apx_dag.specs.declared.refusal.AppRefusal.{AppRefusal}
 use Rattle.apx_dag.specs.declared.refusal.AppRefusal.TheVariants.{Refused, Memory}
 
@@ -7,23 +8,16 @@ use Rattle.apx_dag.specs.declared.refusal.AppRefusal.TheVariants.{Refused, Memor
 abbrev pub Checked : Type 0
 Checked = Result ⊤ (ℕ × List ℕ)
 
--- a check after another one that refuses nothing
-infixl 10 ◌>>=◌
-abbrev pub ◌>>=◌ : Checked → (⊤ → Checked) → Checked
-(Ok x) >>= f = f x
-(Err e) >>= f = Err e
-
 -- a rule, and the place that breaks it, if there is one
 unfoldable pub unless : ℕ → Option (List ℕ) → Checked
 unless code None = Ok tt
 unless code (Some place) = Err (code, place)
 
--- What a function returned is what the checks give, unless memory ran out.
+-- an error says that its rule is the first that is broken, and where; want of memory says nothing
 abbrev pub Fails : AppRefusal → Checked → Type 0
 Fails Memory checked = Unit {0}
 Fails (Refused code place) checked = checked ≡ Err (code, place)
 
 -- what a function returned is what the checks give, unless memory ran out
 abbrev pub Gives : Result ⊤ AppRefusal → Checked → Type 0
-Gives (Ok x) checked = checked ≡ Ok tt
-Gives (Err e) checked = Fails e checked
+Gives = checks.Gives Fails (λ x. x)

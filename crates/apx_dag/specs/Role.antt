@@ -1,10 +1,11 @@
 -- What an operator does, from its class and its properties.
-use Rattle.std.specs.Prelude.{ℕ, ◌-◌, ◌^◌, ◌&&◌, ◌||◌, ◌==◌, nat_le, not, ℤ, pos, negsuc, codes, Bool, false, List, length, find, slice_index, Option, Some, None, is_some, option_and_then, option_map, unwrap_or, reverse, if◌then◌else◌}
+use Rattle.std.specs.Prelude.{ℕ, ◌-◌, ◌^◌, ◌&&◌, ◌||◌, nat_le, ℤ, pos, negsuc, codes, Bool, false, List, find, Option, Some, None, is_some, option_and_then, option_map, unwrap_or, reverse, if◌then◌else◌}
 use Rattle.std.specs.List.{list_all}
 use Rattle.std.specs.Str.{bytes_eq}
 use Rattle.apx_json.specs.declared.text.Property.{Property}
 use Rattle.apx_json.specs.declared.text.PropertyValue.{PropertyValue}
 use Rattle.apx_json.specs.declared.text.PropertyValue.TheVariants.{Number, Text, Other}
+use Rattle.apx_json.specs.FileName.{is_file_name}
 use Rattle.apx_json.specs.Integers.{integer_in}
 use Rattle.apx_json.specs.Texts.{Operator}
 use Rattle.apx_tuple.specs.declared.kind.InputKind.{InputKind}
@@ -27,15 +28,16 @@ within low high (negsuc n) = None
 abbrev pub natural_in : ℕ → ℕ → PropertyValue → Option ℕ
 natural_in low high value = option_and_then (within low high) (integer_in value)
 
--- a text of 1 to 4,096 bytes that doesn't begin with a minus
-abbrev pub is_file_name : PropertyValue → Bool
-is_file_name (Number n) = false
-is_file_name (Text name) = nat_le 1 (length name) && nat_le (length name) 4096 && not (slice_index name 0 == 45)
-is_file_name Other = false
+-- whether a property gives the name of a file
+abbrev pub is_file : PropertyValue → Bool
+is_file (Number n) = false
+is_file (Text name) = is_file_name name
+is_file Other = false
 
 -- the property is one of the class, and its value is in its range
 abbrev pub takes_input : Property → Bool
-takes_input p = bytes_eq p.name (codes "file") && is_file_name p.value || bytes_eq p.name (codes "perWindow") && is_some (natural_in 1 1000000 p.value)
+takes_input p =
+    bytes_eq p.name (codes "file") && is_file p.value || bytes_eq p.name (codes "perWindow") && is_some (natural_in 1 1000000 p.value)
 
 -- the property is one of the class, and its value is in its range
 abbrev pub takes : Class → Property → Bool

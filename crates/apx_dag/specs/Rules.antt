@@ -6,7 +6,8 @@ use Rattle.std.specs.Option.{option_map_or, option_or}
 use Rattle.apx_json.specs.Texts.{Operator, Stream, Application}
 use Rattle.apx_dag.specs.declared.class.Class.{Class}
 use Rattle.apx_dag.specs.declared.class.Class.TheVariants.{Store}
-use Rattle.apx_dag.specs.Checks.{Checked, ◌>>=◌, unless}
+use Rattle.apx_json.specs.Checks.{◌>>=◌}
+use Rattle.apx_dag.specs.Checks.{Checked, unless}
 use Rattle.apx_dag.specs.Class as classes
 use Rattle.apx_dag.specs.Class.{class_of}
 use Rattle.apx_dag.specs.Names.{named_again, is_bad_name}

@@ -100,7 +100,7 @@ fn joins_ports(operators: &[OperatorText], stream: &StreamText) -> bool
 }
 
 /// The first stream with an end that is no port of an operator.
-pub(crate) fn unjoined<'a>(app: &'a AppText) -> Option<&'a StreamText>
+pub(crate) fn no_port<'a>(app: &'a AppText) -> Option<&'a StreamText>
     ensures { option_map (λ s. s.now) result
         ≡ find (λ s. not (joins_ports app.now.operators s)) app.now.streams }
 {
@@ -153,7 +153,7 @@ fn uses_again(earlier: &[StreamText], stream: &StreamText) -> bool
 
 /// The first stream that uses an output port a second time as a source, or an
 /// input port a second time as a sink.
-pub(crate) fn used_again(streams: &[StreamText]) -> Option<&Name>
+pub(crate) fn port_again(streams: &[StreamText]) -> Option<&Name>
     ensures { option_map (λ name. name.now) result ≡ used_again [] streams.now }
 {
     for (i, stream) in streams.iter().enumerate() {
@@ -206,7 +206,7 @@ fn is_joined(streams: &[StreamText], operator: &OperatorText) -> bool
 }
 
 /// The first operator with a port that is in no stream.
-pub(crate) fn unfed(app: &AppText) -> Option<&OperatorText>
+pub(crate) fn unused_port(app: &AppText) -> Option<&OperatorText>
     ensures { option_map (λ o. o.now) result
         ≡ find (λ o. not (is_joined app.now.streams o)) app.now.operators }
 {

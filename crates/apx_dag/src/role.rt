@@ -3,10 +3,10 @@
 ghost use Rattle.std.specs.Prelude.{◌≡◌, ◌≤◌, option_map, option_and_then, IfOk, IfSome};
 ghost use Rattle.std.specs.List.{list_all};
 ghost use Rattle.apx_json.specs.Integers.{integer_in};
-ghost use Rattle.apx_dag.specs.Role.{within, natural_in, is_file_name, takes, value_named, integer_named, natural_named, role_view, input_of, kind_of, built, role_of, role_in};
+ghost use Rattle.apx_dag.specs.Role.{within, natural_in, is_file, takes, value_named, integer_named, natural_named, role_view, input_of, kind_of, built, role_of, role_in};
 
 use crate::class::Class;
-use apx_json::{Name, OperatorText, Property, PropertyValue};
+use apx_json::{Name, OperatorText, Property, PropertyValue, is_file_name};
 use apx_tuple::{InputKind, Kind};
 use std::alloc::{AllocError, Global};
 
@@ -48,15 +48,12 @@ fn natural(value: &PropertyValue, low: u32, high: u32) -> Option<u32>
     whole(value.integer()?, low, high)
 }
 
-/// Whether it is a text of 1 to 4,096 bytes that doesn't begin with `-`.
-fn is_file_name(value: &PropertyValue) -> bool
-    ensures { result ≡ is_file_name value.now }
+/// Whether it gives the name of a file.
+fn is_file(value: &PropertyValue) -> bool
+    ensures { result ≡ is_file value.now }
 {
     match value {
-        PropertyValue::Text(name) => {
-            let bytes = name.text().as_bytes();
-            1 <= bytes.len() && bytes.len() <= 4096 && bytes[0] != b'-'
-        }
+        PropertyValue::Text(name) => is_file_name(name.text()),
         _ => false,
     }
 }
@@ -69,7 +66,7 @@ fn takes(class: Class, property: &Property) -> bool
     let value = &property.value;
     match class {
         Class::Lines | Class::Pairs => {
-            name == "file" && is_file_name(value)
+            name == "file" && is_file(value)
                 || name == "perWindow" && natural(value, 1, 1_000_000).is_some()
         }
         Class::Keep => (name == "min" || name == "max") && value.integer().is_some(),

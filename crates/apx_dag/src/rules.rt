@@ -10,7 +10,7 @@ ghost use Rattle.apx_dag.specs.Rules.{whole, operator_name, stream_name, name_ag
 
 use crate::class::Class;
 use crate::names::{any_bad, first_repeated};
-use crate::port::{unfed, unjoined, used_again};
+use crate::port::{no_port, port_again, unused_port};
 use crate::refusal::{AppRefusal, refuse};
 use crate::role::{operator_role, whole};
 use apx_json::{AppText, Name, OperatorText, StreamText};
@@ -194,9 +194,9 @@ pub(crate) fn before_cycles(alloc: Global, app: &AppText) -> Result<(), AppRefus
     refuse(2, name_again(alloc, app)?)?;
     refuse_operator(3, unknown_class(&app.operators))?;
     refuse_operator(4, wrong_properties(alloc, &app.operators)?)?;
-    refuse_stream(5, unjoined(app))?;
-    refuse(6, used_again(&app.streams))?;
-    refuse_operator(7, unfed(app))
+    refuse_stream(5, no_port(app))?;
+    refuse(6, port_again(&app.streams))?;
+    refuse_operator(7, unused_port(app))
 }
 
 /// The rules after the one on cycles.

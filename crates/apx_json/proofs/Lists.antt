@@ -8,7 +8,8 @@ use Rattle.serde_json.specs.Data.{Data, item}
 use Rattle.serde_json.specs.View.{view, items_view}
 use Rattle.apx_json.specs.declared.refusal.JsonRefusal.{JsonRefusal}
 use Rattle.apx_json.specs.declared.refusal.JsonRefusal.TheVariants.{Syntax, Shape, Memory}
-use Rattle.apx_json.specs.Shape.{Shaped, ◌>>=◌, Fails, each_at}
+use Rattle.apx_json.specs.Checks.{◌>>=◌}
+use Rattle.apx_json.specs.Shape.{Shaped, Fails, each_at}
 
 -- what was read before, and what is still read
 abbrev pub with_front : {X : Type 0} → List X → Shaped (List X) → Shaped (List X)

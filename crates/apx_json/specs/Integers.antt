@@ -1,6 +1,6 @@
 -- The integers that properties give.
 use Rattle.std.specs.Prelude.{ℤ, Option, Some, None}
-use Rattle.apx_json.specs.Decimal.{integer_of}
+use Rattle.apx_decimal.specs.Decimal.{integer_of}
 use Rattle.apx_json.specs.declared.text.PropertyValue.{PropertyValue}
 use Rattle.apx_json.specs.declared.text.PropertyValue.TheVariants.{Number, Text, Other}
 

@@ -1,5 +1,6 @@
 pub mod Texts
-pub mod Decimal
+pub mod Checks
+pub mod FileName
 pub mod Integers
 pub mod Shape
 pub mod Reading

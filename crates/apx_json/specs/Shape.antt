@@ -12,19 +12,15 @@ use Rattle.apx_json.specs.declared.refusal.JsonRefusal.TheVariants.{Syntax, Shap
 use Rattle.apx_json.specs.declared.place.Place.{Place}
 use Rattle.apx_json.specs.declared.place.Place.TheVariants.{Application, Operator, Attributes, Stream, Source, Sink}
 use Rattle.apx_json.specs.Texts as texts
-use Rattle.apx_json.specs.Decimal.{integer_of}
+use Rattle.apx_decimal.specs.Decimal.{integer_of}
+use Rattle.apx_json.specs.Checks as checks
+use Rattle.apx_json.specs.Checks.{◌>>=◌}
 
 -- what is there, or the place that lacks it
 abbrev pub Shaped : Type 0 → Type 0
 Shaped X = Result X (List ℕ)
 
--- what is there goes on to the next reading; the first place that lacks something stays
-infixl 10 ◌>>=◌
-abbrev pub ◌>>=◌ : {A B : Type 0} → Shaped A → (A → Shaped B) → Shaped B
-(Ok x) >>= f = f x
-(Err place) >>= f = Err place
-
--- What a function returned, seen by view, is what the shape gives, unless memory ran out.
+-- an error says that its place lacks the shape; want of memory says nothing, and a text is read before
 abbrev pub Fails : {Y : Type 0} → JsonRefusal → Shaped Y → Type 0
 Fails Memory shaped = Unit {0}
 Fails (Shape place) shaped = shaped ≡ Err place
@@ -32,8 +28,7 @@ Fails Syntax shaped = ⊥
 
 -- what a function returned, seen by view, is what the shape gives, unless memory ran out
 abbrev pub Gives : {X Y : Type 0} → (X → Y) → Result X JsonRefusal → Shaped Y → Type 0
-Gives view (Ok x) shaped = shaped ≡ Ok (view x)
-Gives view (Err e) shaped = Fails e shaped
+Gives = checks.Gives Fails
 
 -- ---- places
 

@@ -2,9 +2,9 @@
 //! there, or the first place where the shape is another one.
 #![tactic(auto)]
 
+mod file_name;
 mod member;
 mod name;
-mod number;
 mod operator;
 mod place;
 mod read;
@@ -12,8 +12,8 @@ mod refusal;
 mod stream;
 mod text;
 
+pub use file_name::is_file_name;
 pub use name::Name;
-pub use number::integer;
 pub use read::read_app;
 pub use refusal::JsonRefusal;
 pub use text::{AppText, OperatorText, PortText, Property, PropertyValue, StreamText};

@@ -5,9 +5,9 @@ ghost use Rattle.serde_json.specs.View.{view, items_view};
 ghost use Rattle.apx_json.specs.Shape.{Gives, object_at, list_at, text_at, number_of, attribute_at};
 
 use crate::name::Name;
-use crate::number::integer;
 use crate::place::Place;
 use crate::refusal::JsonRefusal;
+use apx_decimal::integer;
 use serde_json::Value;
 use std::alloc::Global;
 
@@ -72,7 +72,7 @@ fn number(value: &Value) -> Option<i64>
 {
     match value {
         Value::Number(number) => number.as_i64(),
-        Value::String(text) => integer(text.as_str()),
+        Value::String(text) => integer(text.as_bytes()),
         _ => None,
     }
 }

@@ -1,7 +1,7 @@
 //! An application as its text has it, with nothing of the graph tested.
 
 use crate::name::Name;
-use crate::number::integer;
+use apx_decimal::integer;
 use std::marker::Model;
 
 /// The value of an operator's property.
@@ -26,7 +26,7 @@ impl PropertyValue {
     {
         match self {
             PropertyValue::Number(number) => Some(*number),
-            PropertyValue::Text(text) => integer(text.text()),
+            PropertyValue::Text(text) => integer(text.text().as_bytes()),
             PropertyValue::Other => None,
         }
     }

@@ -1,12 +1,9 @@
 -- The words of the command line, after the program's name.
-use Rattle.std.specs.Prelude.{ℕ, ◌==◌, ◌&&◌, nat_le, not, Bool, List, [], ◌∷◌, length, slice_index, codes, Option, Some, None, option_and_then, if◌then◌else◌}
+use Rattle.std.specs.Prelude.{ℕ, List, [], ◌∷◌, codes, Option, Some, None, option_and_then, if◌then◌else◌}
 use Rattle.std.specs.Str.{bytes_eq}
+use Rattle.apx_json.specs.FileName.{is_file_name}
 use Rattle.apx_load.specs.declared.words.Action.{Action}
 use Rattle.apx_load.specs.declared.words.Action.TheVariants.{Check, Sim}
-
--- a file name has 1 to 4,096 bytes and doesn't begin with a minus, byte 45
-abbrev pub is_file_name : List ℕ → Bool
-is_file_name name = nat_le 1 (length name) && nat_le (length name) 4096 && not (slice_index name 0 == 45)
 
 -- `check` or `sim`, or no action
 abbrev pub action_of : List ℕ → Option Action

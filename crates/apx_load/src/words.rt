@@ -1,7 +1,9 @@
 //! The words of the command line.
 ghost use Rattle.std.specs.Prelude.{◌≡◌, map, string_bytes};
 ghost use Rattle.std.specs.Option.{option_map};
-ghost use Rattle.apx_load.specs.Words.{action_of, is_file_name, command_of};
+ghost use Rattle.apx_load.specs.Words.{action_of, command_of};
+
+use apx_json::is_file_name;
 
 /// What a command does with its application.
 #[derive(Clone, Copy, Debug, PartialEq, Eq)]
@@ -38,12 +40,4 @@ fn action_named(word: &str) -> Option<Action>
         "sim" => Some(Action::Sim),
         _ => None,
     }
-}
-
-/// Whether a text has 1 to 4,096 bytes and doesn't begin with `-`.
-fn is_file_name(name: &str) -> bool
-    ensures { result ≡ is_file_name name.now }
-{
-    let bytes = name.as_bytes();
-    1 <= bytes.len() && bytes.len() <= 4096 && bytes[0] != b'-'
 }
