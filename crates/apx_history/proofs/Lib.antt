@@ -1,0 +1,17 @@
+pub mod Tests
+pub mod Slots
+pub mod Conditions
+pub mod Lines
+pub mod Frames
+pub mod Keeps
+pub mod Trees
+pub mod Renewed
+pub mod Finding
+pub mod Progress
+pub mod Legal
+pub mod Listed
+pub mod Held
+pub mod Once
+pub mod Bounded
+pub mod Examples
+pub mod Runs

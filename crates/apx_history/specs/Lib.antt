@@ -1,0 +1,9 @@
+pub mod Plan
+pub mod State
+pub mod Enabled
+pub mod Effects
+pub mod Journals
+pub mod Choices
+pub mod Conditions
+pub mod Kept
+pub mod Laws
