@@ -1,0 +1,10 @@
+pub mod Lists
+pub mod Marks
+pub mod Entries
+pub mod Places
+pub mod Turning
+pub mod Bounding
+pub mod Splitting
+pub mod Joining
+pub mod Opening
+pub mod Telling
