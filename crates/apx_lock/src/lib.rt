@@ -4,6 +4,7 @@
 
 pub use kept::Kept;
 pub use lock::MarkLock;
+pub use notes::{Note, Notes, write_and_leave};
 pub use rule::Terms;
 pub use seat::{Seat, SeatOver};
 pub use turn::{Turn, TurnOver};
@@ -14,6 +15,7 @@ mod kept;
 mod lends;
 mod lock;
 mod making;
+mod notes;
 mod plays;
 mod rule;
 mod seat;

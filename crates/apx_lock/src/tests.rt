@@ -4,68 +4,11 @@ ghost use Rattle.std.specs.Thread.{IsSync};
 ghost use Rattle.apx_lock.specs.Seats.{IsSeatOf, IsTurnOf};
 ghost use Rattle.apx_lock.specs.Steps.{IsSameSeat};
 
-use crate::{Kept, MarkLock, Seat, Turn};
-use std::alloc::AllocError;
+use crate::notes::{Notes, write_and_leave};
+use crate::{MarkLock, Seat};
 use std::sync::Wait;
 use std::test::Fail;
 use std::thread::{Threads, join};
-
-// Who wrote a number. A note lets nothing go.
-#[derive(Clone, Copy)]
-struct Note {
-    by: u8,
-    number: u32,
-}
-
-#[derive(Drop)]
-struct Notes {
-    list: Vec<Note>,
-}
-
-impl Kept for Notes {
-    type Name = ();
-
-    type Entry = Note;
-
-    ghost stands = { λ notes name log. notes.list.items ≡ log };
-
-    ghost seat = { λ note. note.by };
-
-    ghost bound = { λ note. 0 };
-
-    ghost grows = { λ notes note next. next.list.items ≡ notes.list.items ++ note ∷ [] };
-
-    fn count(&self) -> u64 {
-        self.list.len() as u64
-    }
-
-    ghost use Rattle.std.proofs.Common.{ap, ◌∙◌};
-
-    ghost one_more = { λ value next name log entry stands grows. grows ∙ ap (λ l. l ++ entry ∷ []) stands };
-}
-
-impl Notes {
-    fn add(&mut self, note: Note) -> Result<(), AllocError>
-        ensures { (self.new.list.items ≡ self.old.list.items) ⊎ (self.new.list.items ≡ self.old.list.items ++ note ∷ []) }
-    {
-        self.list.push(note)?;
-        Ok(())
-    }
-}
-
-// Writes a number, and gives the turn back. Where there is no memory nothing is written.
-fn write_and_leave(mut turn: Turn<'_, Notes>, seat: &mut Seat<Notes>, number: u32)
-    requires turn { IsTurnOf turn.desk.now.table_id turn.desk.now.key turn.base seat.old }
-    requires holds { seat.old.view.holds ≡ true }
-    requires value { turn.value.list.items ≡ seat.old.view.seen }
-    ensures seat { IsSeatOf turn.entry.desk.now.table_id turn.entry.desk.now.key seat.new }
-    ensures same { IsSameSeat seat.old.view seat.new.view }
-    ensures idle { seat.new.view.holds ≡ false }
-{
-    let by = seat.number();
-    let _ = turn.value().add(Note { by, number });
-    turn.leave(seat);
-}
 
 // Tries to take the turn, and says whether it wrote the number.
 fn attempt(lock: &MarkLock<Notes>, seat: &mut Seat<Notes>, number: u32) -> bool
@@ -86,10 +29,7 @@ fn attempt(lock: &MarkLock<Notes>, seat: &mut Seat<Notes>, number: u32) -> bool
 
 #[test]
 fn two_seats_add_an_entry_each(rt: HostRuntime) -> Result<(), Fail> {
-    let notes = Notes {
-        list: Vec::new(rt.alloc()),
-    };
-    let (lock, mut first) = match MarkLock::new(rt.alloc(), (), notes, 2) {
+    let (lock, mut first) = match MarkLock::new(rt.alloc(), (), Notes::new(rt.alloc()), 2) {
         Ok(made) => made,
         Err((_, err)) => return Err(err.into()),
     };
@@ -104,7 +44,7 @@ fn two_seats_add_an_entry_each(rt: HostRuntime) -> Result<(), Fail> {
     lock.join(&mut first, second);
     let notes = lock.close(first);
     assert!(rt; !early && late && bound == 5 && numbers == (0, 1));
-    let written = notes.list.as_slice();
+    let written = notes.notes();
     assert!(rt; written.len() == 2);
     assert!(rt; written[0].by == 0 && written[0].number == 5);
     assert!(rt; written[1].by == 1 && written[1].number == 6);
@@ -161,10 +101,7 @@ fn write_by_two<R: Threads + Wait + Sync>(
 
 #[test]
 fn two_threads_write_all_their_numbers_in_order(rt: HostRuntime) -> Result<(), Fail> {
-    let notes = Notes {
-        list: Vec::new(rt.alloc()),
-    };
-    let (lock, mut first) = match MarkLock::new(rt.alloc(), (), notes, 0) {
+    let (lock, mut first) = match MarkLock::new(rt.alloc(), (), Notes::new(rt.alloc()), 0) {
         Ok(made) => made,
         Err((_, err)) => return Err(err.into()),
     };
@@ -173,7 +110,7 @@ fn two_threads_write_all_their_numbers_in_order(rt: HostRuntime) -> Result<(), F
     let (mut first, second) = write_by_two(&rt, &lock, first, second);
     lock.join(&mut first, second);
     let notes = lock.close(first);
-    let written = notes.list.as_slice();
+    let written = notes.notes();
     assert!(rt; marks == 0 && written.len() == 200);
     for by in 0..2 {
         let mut next = 0;
@@ -190,10 +127,7 @@ fn two_threads_write_all_their_numbers_in_order(rt: HostRuntime) -> Result<(), F
 
 #[test]
 fn a_mark_goes_with_its_seat_and_comes_back(rt: HostRuntime) -> Result<(), Fail> {
-    let notes = Notes {
-        list: Vec::new(rt.alloc()),
-    };
-    let (lock, mut first) = match MarkLock::new(rt.alloc(), (), notes, 2) {
+    let (lock, mut first) = match MarkLock::new(rt.alloc(), (), Notes::new(rt.alloc()), 2) {
         Ok(made) => made,
         Err((_, err)) => return Err(err.into()),
     };
@@ -207,6 +141,6 @@ fn a_mark_goes_with_its_seat_and_comes_back(rt: HostRuntime) -> Result<(), Fail>
     lock.raise_mark(&mut first, 1, 9);
     let last = lock.lower_bound(&mut first, 1);
     let notes = lock.close(first);
-    assert!(rt; seen == (0, 7) && last == 9 && notes.list.is_empty());
+    assert!(rt; seen == (0, 7) && last == 9 && notes.notes().is_empty());
     Ok(())
 }
