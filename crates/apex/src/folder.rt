@@ -1,5 +1,5 @@
 // The folder that the system's file names lead to.
-ghost use Rattle.std.specs.Prelude.{◌≡◌, ◌<◌, ◌≤◌, false, None, length, IfOk, IfSome};
+ghost use Rattle.std.specs.Prelude.{◌≡◌, ◌<◌, ◌≤◌, false, None, length, ⊤, IfOk, IfSome};
 
 use apx_device::{Folder, ReadRefusal};
 use std::alloc::Global;
@@ -32,6 +32,8 @@ impl<'a, R: Files> Folder for RealFolder<'a, R> {
     ghost tells = { false };
 
     ghost told = { λ _ _. None };
+
+    ghost heard = { λ _ _. ⊤ };
 
     ghost faults = { λ folder. folder.faults };
 

@@ -2,7 +2,7 @@
 ghost use Rattle.std.specs.Prelude.{◌≡◌, ◌<◌, ◌≤◌, ◌+◌, ◌-◌, ◌^◌, [], ⊤, false, min, length, IfOk, OnOk, IsErr};
 ghost use Rattle.std.specs.Io.Buffered.{writer_buffer, writer_contents};
 ghost use Rattle.std.specs.Io.KnownBytes.{Keeps, WriteAppends};
-ghost use Rattle.apx_device.specs.Cause.{HasCause};
+ghost use Rattle.apx_cause.specs.Cause.{HasCause};
 
 use apx_device::{Failed, Out};
 use std::io::{BufWriter, Write};

@@ -7,5 +7,7 @@ Rose before now = min (before + 1) (2 ^ 64 - 1) ≤ now
 
 -- the count doesn't fall, and the fault comes only where it rose
 pub record HasCause (before now : ℕ) (fault : Type 0) : Type 0 where
+  -- the count doesn't fall
   pub later : before ≤ now
+  -- the fault comes only where the count rose
   pub rose : fault → Rose before now

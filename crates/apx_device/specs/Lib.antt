@@ -1,9 +1,13 @@
-pub mod Cause
+pub mod Failing
 pub mod Folder
 pub mod Keeper
-pub mod MemoryKeeper
 pub mod MemoryFolder
+pub mod MemoryKeeper
 pub mod MemoryOut
 pub mod MemorySpool
+pub mod MemoryVault
 pub mod Out
+pub mod Rows
 pub mod Spool
+pub mod Vault
+pub mod VaultsInMemory

@@ -6,6 +6,7 @@ use Rattle.std.specs.BTreeMap.{get}
 use Rattle.apx_device.specs.declared.memory_spool.MemorySpool.{MemorySpool}
 use Rattle.apx_device.specs.declared.memory_spool.FailingSpool.{FailingSpool}
 use Rattle.apx_device.specs.declared.memory_spool.FailingSpools.{FailingSpools}
+use Rattle.apx_device.specs.declared.memory_spool.WrongSpool.{WrongSpool}
 
 -- the piece under a number
 abbrev pub piece_of : MemorySpool → ℕ → Option (List ℕ)
@@ -18,3 +19,7 @@ failing_piece_of spool = piece_of spool.spool
 -- the faults of a failing maker
 abbrev pub makers_faults : FailingSpools → ℕ
 makers_faults maker = maker.calls.faults
+
+-- what was put into a spool that gives one wrong piece
+abbrev pub wrong_piece_of : WrongSpool → ℕ → Option (List ℕ)
+wrong_piece_of spool = piece_of spool.spool

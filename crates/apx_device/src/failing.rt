@@ -1,7 +1,7 @@
 // Which calls of a device in memory are to fail.
 ghost use Rattle.std.specs.Prelude.{◌≡◌, ◌+◌, ◌-◌, ◌^◌, ◌↔◌, min, ⊤, IsTrue, Contains};
 ghost use Rattle.std.specs.Bool.{OnFalse};
-ghost use Rattle.apx_device.specs.Cause.{HasCause};
+ghost use Rattle.apx_cause.specs.Cause.{HasCause};
 
 /// The numbers of the calls that are to fail, counted from 1, with the calls made and the faults so far.
 #[derive(Drop)]
@@ -12,8 +12,10 @@ pub(crate) struct FailingCalls {
 }
 
 impl FailingCalls {
+    ghost use Rattle.apx_device.specs.Failing.{BeginsWith, CalledOnce, NextFails};
+
     pub(crate) fn new(numbers: Vec<u64>) -> Self
-        ensures { result ≡ record { numbers = numbers; made = 0; faults = 0 } }
+        ensures { BeginsWith result numbers.items }
     {
         FailingCalls {
             numbers,
@@ -32,11 +34,10 @@ impl FailingCalls {
 
     /// Counts one call, and the fault where the call is to fail.
     pub(crate) fn next_fails(&mut self) -> bool
-        ensures fails { IsTrue result ↔ Contains self.old.numbers.items (min (self.old.made + 1) (2 ^ 64 - 1)) }
+        ensures fails { IsTrue result ↔ NextFails self.old }
+        ensures called { CalledOnce self.old self.new (IsTrue result) }
         ensures cause { HasCause self.old.faults self.new.faults (IsTrue result) }
         ensures unharmed { OnFalse result (self.new.faults ≡ self.old.faults) }
-        ensures made { self.new.made ≡ min (self.old.made + 1) (2 ^ 64 - 1) }
-        ensures numbers { self.new.numbers ≡ self.old.numbers }
     {
         self.made = self.made.saturating_add(1);
         let fails = self.numbers.contains(&self.made);

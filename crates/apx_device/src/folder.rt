@@ -1,7 +1,7 @@
 // A folder of input files: each is read whole, up to a limit.
-ghost use Rattle.std.specs.Prelude.{◌≡◌, ◌≤◌, Bool, ℕ, List, Option, length, IsTrue, IfOk};
-ghost use Rattle.apx_device.specs.Cause.{HasCause};
-ghost use Rattle.apx_device.specs.Folder.{Answers};
+ghost use Rattle.std.specs.Prelude.{◌≡◌, ◌≤◌, ◌++◌, ◌∷◌, [], Bool, ℕ, List, Option, length, IsTrue, IfOk};
+ghost use Rattle.apx_cause.specs.Cause.{HasCause};
+ghost use Rattle.apx_device.specs.Folder.{Answer, Says, given, answer_of};
 
 use std::alloc::Global;
 use thiserror::Error;
@@ -30,6 +30,10 @@ pub trait Folder {
     /// The file under each name, where the folder tells.
     ghost told: { Self → List ℕ → Option (List ℕ) };
 
+    /// The answers to all reads so far may be these. It ties what a call makes of files to what the folder
+    /// answered in it, whatever that was; a folder need keep no list for it.
+    ghost heard: { Self → List Answer → Type 0 };
+
     /// How many faults there were.
     ghost faults: { Self → ℕ };
 
@@ -39,8 +43,9 @@ pub trait Folder {
 
     /// The bytes of a file of at most `limit` bytes.
     fn read(&mut self, alloc: Global, name: &str, limit: usize) -> Result<Vec<u8>, ReadRefusal>
-        ensures answer { IsTrue tells → Answers limit (told self.old name.now) result }
+        ensures answer { IsTrue tells → Says (told self.old name.now) limit (given result) }
         ensures within { IfOk result (λ bytes. length bytes.items ≤ limit) }
+        ensures heard { (before : List Answer) → heard self.old before → heard self.new (before ++ answer_of name.now limit result ∷ []) }
         ensures files { told self.new ≡ told self.old }
         ensures cause { HasCause (faults self.old) (faults self.new) (result ≡ Err ReadRefusal.Failed) };
 }

@@ -3,7 +3,8 @@ ghost use Rattle.std.specs.Prelude.{◌≡◌, ◌<◌, ◌≤◌, ◌+◌, ◌-
 ghost use Rattle.apx_tuple.specs.Size.{size_by};
 ghost use Rattle.apx_tuple.specs.Tuple.{tuple_key};
 ghost use Rattle.apx_tuple.specs.declared.tuple.Tuple.{Tuple};
-ghost use Rattle.apx_device.specs.Cause.{HasCause};
+ghost use Rattle.apx_cause.specs.Cause.{HasCause};
+ghost use Rattle.apx_cause.specs.Steps.{Steps, OneOf};
 ghost use Rattle.apx_device.specs.Keeper.{LeftBy, StaysSound};
 
 use apx_tuple::Tuple;
@@ -37,6 +38,12 @@ pub trait Keeper {
     /// How many faults there were.
     ghost faults: { Self → ℕ };
 
+    /// A time, which doesn't fall.
+    ghost time: { Self → ℕ };
+
+    /// A crash at some moment since that time might have left these windows.
+    ghost left: { Self → ℕ → List (List Tuple) → Type 0 };
+
     /// How many faults there were. The count stops at its type's last value.
     fn faults(&self) -> u64
         ensures { result ≡ faults self.now };
@@ -58,6 +65,8 @@ pub trait Keeper {
         ensures stored { IsTrue tells → LeftBy result (stored self.old) (stored self.old ++ rows.now ∷ []) (stored self.new) }
         ensures last { LeftBy result (last self.old) (last self.old + 1) (last self.new) }
         ensures sound { StaysSound result (sound self.new) }
+        ensures crash { IsTrue tells → Steps (time self.old) (time self.new) (left self.old) (left self.new)
+            (OneOf (stored self.old) (stored self.old ++ rows.now ∷ [])) }
         ensures cause { HasCause (faults self.old) (faults self.new) (result ≡ Err KeepRefusal.Failed) };
 
     /// The rows of a stored window.
@@ -69,5 +78,19 @@ pub trait Keeper {
         ensures stored { stored self.new ≡ stored self.old }
         ensures last { last self.new ≡ last self.old }
         ensures sound { StaysSound result (sound self.new) }
+        ensures crash { IsTrue tells → Steps (time self.old) (time self.new) (left self.old) (left self.new)
+            (λ windows. windows ≡ stored self.old) }
         ensures cause { HasCause (faults self.old) (faults self.new) (result ≡ Err KeepRefusal.Failed) };
+
+    /// The last window is that of the rows. So after a failed commit the rows and the last window are those
+    /// from before it or those from after it, together.
+    ghost counted: { (keeper : Self) → IsTrue tells → length (stored keeper) ≡ last keeper };
+
+    /// Of a sound keeper a crash now leaves what it has.
+    ghost settled: { (keeper : Self) (windows : List (List Tuple)) →
+        IsTrue tells → IsTrue (sound keeper) → left keeper (time keeper) windows → windows ≡ stored keeper };
+
+    /// This moment is one of those since an earlier time.
+    ghost counts: { (keeper : Self) (t : ℕ) (windows : List (List Tuple)) →
+        IsTrue tells → t ≤ time keeper → left keeper (time keeper) windows → left keeper t windows };
 }

@@ -1,5 +1,7 @@
-// A folder in memory, and one whose reads fail by number.
-ghost use Rattle.std.specs.Prelude.{◌≡◌, ◌≢◌, ℕ, List, true, Some, OnOk, OnErr};
+// Folders in memory: one that tells its files, one whose reads fail by number, and one that tells nothing.
+ghost use Rattle.std.specs.Prelude.{◌≡◌, ◌≢◌, ◌≤◌, ◌++◌, ◌∷◌, [], ℕ, List, true, false, Some, None, length, ⊤, IsTrue, IfOk, OnOk, OnErr};
+ghost use Rattle.apx_cause.specs.Cause.{HasCause};
+ghost use Rattle.apx_device.specs.Folder.{Answer, Says, given, answer_of};
 
 use crate::failing::FailingCalls;
 use crate::{Folder, ReadRefusal};
@@ -42,6 +44,8 @@ impl Folder for MemoryFolder {
 
     ghost told = { file_of };
 
+    ghost heard = { λ _ _. ⊤ };
+
     ghost faults = { λ _. 0 };
 
     fn faults(&self) -> u64 {
@@ -67,11 +71,13 @@ pub struct FailingFolder {
 }
 
 impl FailingFolder {
+    ghost use Rattle.apx_device.specs.Failing.{BeginsWith};
     ghost use Rattle.apx_device.specs.MemoryFolder.{file_of, failing_file_of};
 
     /// The folder, of which the reads with these numbers, counted from 1, are to fail.
     pub fn new(folder: MemoryFolder, calls: Vec<u64>) -> Self
-        ensures { failing_file_of result ≡ file_of folder }
+        ensures files { failing_file_of result ≡ file_of folder }
+        ensures calls { BeginsWith result.calls calls.items }
     {
         FailingFolder {
             folder,
@@ -81,11 +87,14 @@ impl FailingFolder {
 }
 
 impl Folder for FailingFolder {
+    ghost use Rattle.apx_device.specs.Failing.{CalledOnce, NextFails};
     ghost use Rattle.apx_device.specs.MemoryFolder.{failing_file_of};
 
     ghost tells = { true };
 
     ghost told = { failing_file_of };
+
+    ghost heard = { λ _ _. ⊤ };
 
     ghost faults = { λ folder. folder.calls.faults };
 
@@ -93,10 +102,66 @@ impl Folder for FailingFolder {
         self.calls.faults
     }
 
-    fn read(&mut self, alloc: Global, name: &str, limit: usize) -> Result<Vec<u8>, ReadRefusal> {
+    fn read(&mut self, alloc: Global, name: &str, limit: usize) -> Result<Vec<u8>, ReadRefusal>
+        ensures answer { Says (failing_file_of self.old name.now) limit (given result) }
+        ensures within { IfOk result (λ bytes. length bytes.items ≤ limit) }
+        ensures files { failing_file_of self.new ≡ failing_file_of self.old }
+        ensures cause { HasCause self.old.calls.faults self.new.calls.faults (result ≡ Err ReadRefusal.Failed) }
+
+        // It fails exactly at the calls that are to fail.
+        ensures called { CalledOnce self.old.calls self.new.calls (result ≡ Err ReadRefusal.Failed) }
+        ensures only { result ≡ Err ReadRefusal.Failed → NextFails self.old.calls }
+    {
         if self.calls.next_fails() {
             return Err(ReadRefusal::Failed);
         }
         self.folder.read(alloc, name, limit)
+    }
+}
+
+/// A folder in memory that tells nothing: it answers its reads by a list of its own, whatever name is asked for.
+///
+/// So a file that is read twice may come in two forms. Once the list is at its end, each read is told that
+/// there is no such file.
+#[derive(Drop)]
+pub struct ListedFolder {
+    /// What is given at each read in turn.
+    contents: Vec<Vec<u8>>,
+    /// How many reads there were, up to the last value of the type.
+    reads: usize,
+}
+
+impl ListedFolder {
+    /// The folder that gives these contents in turn.
+    pub fn new(contents: Vec<Vec<u8>>) -> Self
+        ensures { result ≡ record { contents = contents; reads = 0 } }
+    {
+        ListedFolder { contents, reads: 0 }
+    }
+}
+
+impl Folder for ListedFolder {
+    ghost tells = { false };
+
+    ghost told = { λ _ _. None };
+
+    ghost heard = { λ _ _. ⊤ };
+
+    ghost faults = { λ _. 0 };
+
+    fn faults(&self) -> u64 {
+        0
+    }
+
+    fn read(&mut self, alloc: Global, _name: &str, limit: usize) -> Result<Vec<u8>, ReadRefusal> {
+        let read = self.reads;
+        self.reads = self.reads.saturating_add(1);
+        let Some(bytes) = self.contents.get(read) else {
+            return Err(ReadRefusal::Absent);
+        };
+        if bytes.len() > limit {
+            return Err(ReadRefusal::TooLong);
+        }
+        bytes.to_vec(alloc).map_err(|_| ReadRefusal::Memory)
     }
 }

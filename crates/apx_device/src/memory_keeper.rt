@@ -1,16 +1,34 @@
 // A keeper in memory, and one whose calls fail by number.
-ghost use Rattle.std.specs.Prelude.{◌≡◌, ◌<◌, ◌^◌, [], true, vec_len, length, IfOk};
+ghost use Rattle.std.specs.Prelude.{◌≡◌, ◌<◌, ◌≤◌, ◌+◌, ◌-◌, ◌^◌, ◌++◌, ◌∷◌, [], true, Some, is_some, vec_len, length, slice_get, IsTrue, IfOk, ◌⊎◌};
+ghost use Rattle.std.proofs.Common.{refl};
+ghost use Rattle.apx_tuple.specs.Size.{size_by};
+ghost use Rattle.apx_tuple.specs.Tuple.{tuple_key};
+ghost use Rattle.apx_cause.specs.Cause.{HasCause};
+ghost use Rattle.apx_cause.specs.Steps.{Steps, OneOf};
+ghost use Rattle.apx_device.specs.Keeper.{LeftBy, StaysSound};
+ghost use Rattle.apx_device.specs.Rows.{rows_in};
 
 use crate::failing::FailingCalls;
+use crate::rows::{append_rows, read_rows};
 use crate::{KeepRefusal, Keeper};
 use apx_tuple::Tuple;
 use std::alloc::{AllocError, Global};
+
+/// The rows of one window, as one piece of bytes: ten bytes a row beside its key.
+#[derive(Drop)]
+pub(crate) struct StoredWindow {
+    /// How many rows there are.
+    count: u32,
+    /// The rows' bytes, one row behind the other.
+    bytes: Vec<u8>,
+    ghost whole: { is_some (rows_in count bytes.items) ≡ true },
+}
 
 /// The rows of each window in order. No call of it fails.
 #[derive(Drop)]
 pub struct MemoryKeeper {
     alloc: Global,
-    windows: Vec<Vec<Tuple>>,
+    windows: Vec<StoredWindow>,
     ghost countable: { vec_len windows < 2 ^ 32 },
 }
 
@@ -28,15 +46,31 @@ impl MemoryKeeper {
     }
 }
 
-// The same rows.
-fn copy_rows(alloc: Global, rows: &[Tuple]) -> Result<Vec<Tuple>, AllocError>
-    ensures { IfOk result (λ copied. copied.items ≡ rows.now) }
-{
-    let mut copied = Vec::new(alloc);
-    for row in rows {
-        copied.push(row.copy()?)?;
+impl StoredWindow {
+    ghost use Rattle.apx_device.specs.MemoryKeeper.{rows_of};
+
+    /// The window with these rows.
+    fn of(alloc: Global, rows: &[Tuple]) -> Result<StoredWindow, AllocError>
+        requires { size_by tuple_key rows.now < 4294967232 }
+        ensures { IfOk result (λ window. rows_of window ≡ rows.now) }
+    {
+        let mut bytes = Vec::new(alloc);
+        append_rows(rows, &mut bytes)?;
+        Ok(StoredWindow {
+            count: rows.len() as u32,
+            bytes,
+        })
     }
-    Ok(copied)
+
+    /// The rows of the window.
+    fn rows(&self, alloc: Global) -> Result<Vec<Tuple>, AllocError>
+        ensures { IfOk result (λ rows. rows.items ≡ rows_of self.now) }
+    {
+        match read_rows(alloc, self.count, &self.bytes)? {
+            Some(rows) => Ok(rows),
+            None => unreachable!(),
+        }
+    }
 }
 
 impl Keeper for MemoryKeeper {
@@ -53,6 +87,16 @@ impl Keeper for MemoryKeeper {
 
     ghost faults = { λ _. 0 };
 
+    ghost time = { λ _. 0 };
+
+    ghost left = { λ _ _ _. ⊥ };
+
+    ghost counted = { λ keeper tells. refl };
+
+    ghost settled = { λ keeper windows tells sound left. absurd left };
+
+    ghost counts = { λ keeper t windows tells le left. left };
+
     fn faults(&self) -> u64 {
         0
     }
@@ -66,17 +110,19 @@ impl Keeper for MemoryKeeper {
     }
 
     fn commit(&mut self, _window: u32, rows: &[Tuple]) -> Result<(), KeepRefusal> {
-        let Ok(copied) = copy_rows(self.alloc, rows) else {
+        let Ok(stored) = StoredWindow::of(self.alloc, rows) else {
             return Err(KeepRefusal::Memory);
         };
-        match self.windows.push(copied) {
+        match self.windows.push(stored) {
             Ok(()) => Ok(()),
             Err(_) => Err(KeepRefusal::Memory),
         }
     }
 
     fn rows(&mut self, alloc: Global, window: u32) -> Result<Vec<Tuple>, KeepRefusal> {
-        copy_rows(alloc, &self.windows[window as usize - 1]).map_err(|_| KeepRefusal::Memory)
+        self.windows[window as usize - 1]
+            .rows(alloc)
+            .map_err(|_| KeepRefusal::Memory)
     }
 }
 
@@ -85,17 +131,20 @@ impl Keeper for MemoryKeeper {
 pub struct FailingKeeper {
     keeper: MemoryKeeper,
     calls: FailingCalls,
-    // whether a failing commit is stored before it fails
+    /// Whether a failing commit is stored before it fails.
     stores_first: bool,
 }
 
 impl FailingKeeper {
+    ghost use Rattle.apx_device.specs.Failing.{BeginsWith};
     ghost use Rattle.apx_device.specs.MemoryKeeper.{windows_of, failing_windows_of};
 
     /// The keeper, of which the commits and reads with these numbers, counted together from 1, are
-    /// to fail. With `stores_first` a failing commit is stored before it fails.
+    /// to fail. With `stores_first` a failing commit is stored before it fails, where there is memory for it.
     pub fn new(keeper: MemoryKeeper, calls: Vec<u64>, stores_first: bool) -> Self
-        ensures { failing_windows_of result ≡ windows_of keeper }
+        ensures windows { failing_windows_of result ≡ windows_of keeper }
+        ensures calls { BeginsWith result.calls calls.items }
+        ensures stores_first { result.stores_first ≡ stores_first }
     {
         FailingKeeper {
             keeper,
@@ -107,6 +156,7 @@ impl FailingKeeper {
 
 impl Keeper for FailingKeeper {
     ghost use Rattle.std.specs.Prelude.{length};
+    ghost use Rattle.apx_device.specs.Failing.{CalledOnce, NextFails};
     ghost use Rattle.apx_device.specs.MemoryKeeper.{failing_windows_of};
 
     ghost tells = { true };
@@ -118,6 +168,16 @@ impl Keeper for FailingKeeper {
     ghost sound = { λ _. true };
 
     ghost faults = { λ keeper. keeper.calls.faults };
+
+    ghost time = { λ _. 0 };
+
+    ghost left = { λ _ _ _. ⊥ };
+
+    ghost counted = { λ keeper tells. refl };
+
+    ghost settled = { λ keeper windows tells sound left. absurd left };
+
+    ghost counts = { λ keeper t windows tells le left. left };
 
     fn faults(&self) -> u64 {
         self.calls.faults
@@ -131,7 +191,26 @@ impl Keeper for FailingKeeper {
         self.keeper.last()
     }
 
-    fn commit(&mut self, window: u32, rows: &[Tuple]) -> Result<(), KeepRefusal> {
+    fn commit(&mut self, window: u32, rows: &[Tuple]) -> Result<(), KeepRefusal>
+        requires sound { IsTrue true }
+        requires next { window ≡ length (failing_windows_of self.old) + 1 }
+        requires small { size_by tuple_key rows.now < 4294967232 }
+        ensures stored { LeftBy result (failing_windows_of self.old) (failing_windows_of self.old ++ rows.now ∷ [])
+            (failing_windows_of self.new) }
+        ensures last { LeftBy result (length (failing_windows_of self.old)) (length (failing_windows_of self.old) + 1)
+            (length (failing_windows_of self.new)) }
+        ensures sound { StaysSound result true }
+        ensures crash { Steps 0 0 (λ _ _. ⊥) (λ _ _. ⊥)
+            (OneOf (failing_windows_of self.old) (failing_windows_of self.old ++ rows.now ∷ [])) }
+        ensures cause { HasCause self.old.calls.faults self.new.calls.faults (result ≡ Err KeepRefusal.Failed) }
+
+        // It fails exactly at the calls that are to fail, and is stored then only where it is to be.
+        ensures called { CalledOnce self.old.calls self.new.calls (result ≡ Err KeepRefusal.Failed) }
+        ensures only { result ≡ Err KeepRefusal.Failed → NextFails self.old.calls }
+        ensures unstored { result ≡ Err KeepRefusal.Failed →
+            IsTrue self.old.stores_first ⊎ (failing_windows_of self.new ≡ failing_windows_of self.old) }
+        ensures same { self.new.stores_first ≡ self.old.stores_first }
+    {
         if !self.calls.next_fails() {
             return self.keeper.commit(window, rows);
         }
@@ -141,7 +220,22 @@ impl Keeper for FailingKeeper {
         Err(KeepRefusal::Failed)
     }
 
-    fn rows(&mut self, alloc: Global, window: u32) -> Result<Vec<Tuple>, KeepRefusal> {
+    fn rows(&mut self, alloc: Global, window: u32) -> Result<Vec<Tuple>, KeepRefusal>
+        requires sound { IsTrue true }
+        requires from_one { 1 ≤ window }
+        requires there { window ≤ length (failing_windows_of self.old) }
+        ensures rows { IfOk result (λ rows. slice_get (failing_windows_of self.old) (window - 1) ≡ Some rows.items) }
+        ensures stored { failing_windows_of self.new ≡ failing_windows_of self.old }
+        ensures last { length (failing_windows_of self.new) ≡ length (failing_windows_of self.old) }
+        ensures sound { StaysSound result true }
+        ensures crash { Steps 0 0 (λ _ _. ⊥) (λ _ _. ⊥) (λ windows. windows ≡ failing_windows_of self.old) }
+        ensures cause { HasCause self.old.calls.faults self.new.calls.faults (result ≡ Err KeepRefusal.Failed) }
+
+        // It fails exactly at the calls that are to fail.
+        ensures called { CalledOnce self.old.calls self.new.calls (result ≡ Err KeepRefusal.Failed) }
+        ensures only { result ≡ Err KeepRefusal.Failed → NextFails self.old.calls }
+        ensures same { self.new.stores_first ≡ self.old.stores_first }
+    {
         if self.calls.next_fails() {
             return Err(KeepRefusal::Failed);
         }

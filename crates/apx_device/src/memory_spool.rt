@@ -1,5 +1,7 @@
-// Spools in memory, and ones that fail by number.
-ghost use Rattle.std.specs.Prelude.{◌≡◌, ℕ, true, None, IfOk};
+// Spools in memory: ones that tell their pieces, ones that fail by number, and ones with one wrong piece.
+ghost use Rattle.std.specs.Prelude.{◌≡◌, ℕ, true, false, Some, None, IsSome, IfOk, OnOk, OnErr};
+ghost use Rattle.apx_cause.specs.Cause.{HasCause};
+ghost use Rattle.apx_device.specs.Spool.{KeepsOthers, IsFault};
 
 use crate::failing::FailingCalls;
 use crate::{Spool, SpoolRefusal, Spools, SpoolsRefusal};
@@ -64,7 +66,10 @@ pub struct MemorySpools {
 }
 
 impl MemorySpools {
-    pub fn new(alloc: Global) -> Self {
+    /// The maker of spools whose pieces lie in the memory of this allocator.
+    pub fn new(alloc: Global) -> Self
+        ensures { result ≡ record { alloc = alloc } }
+    {
         MemorySpools { alloc }
     }
 }
@@ -96,7 +101,9 @@ pub struct FailingSpool {
 }
 
 // The refusal of a spool that never faults.
-fn memory_alone(refusal: SpoolRefusal<Infallible>) -> SpoolRefusal<SpoolFault> {
+fn memory_alone(refusal: SpoolRefusal<Infallible>) -> SpoolRefusal<SpoolFault>
+    ensures { result ≡ SpoolRefusal.Memory }
+{
     match refusal {
         SpoolRefusal::Fault(never) => match never {},
         SpoolRefusal::Memory => SpoolRefusal::Memory,
@@ -106,20 +113,40 @@ fn memory_alone(refusal: SpoolRefusal<Infallible>) -> SpoolRefusal<SpoolFault> {
 impl Spool for FailingSpool {
     type Fault = SpoolFault;
 
+    ghost use Rattle.apx_device.specs.Failing.{CalledOnce, NextFails};
     ghost use Rattle.apx_device.specs.MemorySpool.{failing_piece_of};
 
     ghost tells = { true };
 
     ghost held = { failing_piece_of };
 
-    fn put(&mut self, number: u64, piece: &[u8]) -> Result<(), SpoolRefusal<SpoolFault>> {
+    fn put(&mut self, number: u64, piece: &[u8]) -> Result<(), SpoolRefusal<SpoolFault>>
+        ensures held { OnOk result (IsSome (failing_piece_of self.new number)) }
+        ensures told { OnOk result (failing_piece_of self.new number ≡ Some piece.now) }
+        ensures others { KeepsOthers (failing_piece_of self.old) (failing_piece_of self.new) number }
+        ensures err { OnErr result (failing_piece_of self.new number ≡ failing_piece_of self.old number) }
+
+        // It fails exactly at the puts that are to fail.
+        ensures called { CalledOnce self.old.puts self.new.puts (IsFault result) }
+        ensures only { IsFault result → NextFails self.old.puts }
+        ensures fetches { self.new.fetches ≡ self.old.fetches }
+    {
         if self.puts.next_fails() {
             return Err(SpoolRefusal::Fault(SpoolFault(())));
         }
         self.spool.put(number, piece).map_err(memory_alone)
     }
 
-    fn fetch(&mut self, alloc: Global, number: u64) -> Result<Vec<u8>, SpoolRefusal<SpoolFault>> {
+    fn fetch(&mut self, alloc: Global, number: u64) -> Result<Vec<u8>, SpoolRefusal<SpoolFault>>
+        requires { IsSome (failing_piece_of self.old number) }
+        ensures told { IfOk result (λ piece. failing_piece_of self.old number ≡ Some piece.items) }
+        ensures held { (other : ℕ) → failing_piece_of self.new other ≡ failing_piece_of self.old other }
+
+        // It fails exactly at the fetches that are to fail.
+        ensures called { CalledOnce self.old.fetches self.new.fetches (IsFault result) }
+        ensures only { IsFault result → NextFails self.old.fetches }
+        ensures puts { self.new.puts ≡ self.old.puts }
+    {
         if self.fetches.next_fails() {
             return Err(SpoolRefusal::Fault(SpoolFault(())));
         }
@@ -141,12 +168,16 @@ pub struct FailingSpools {
 }
 
 impl FailingSpools {
+    ghost use Rattle.apx_device.specs.Failing.{BeginsWith};
     ghost use Rattle.apx_device.specs.MemorySpool.{failing_piece_of, makers_faults};
 
     /// A maker of which the calls with the numbers `calls`, counted from 1, are to fail, and of each
     /// spool that it makes the puts and the fetches with those numbers.
     pub fn new(alloc: Global, calls: Vec<u64>, puts: Vec<u64>, fetches: Vec<u64>) -> Self
-        ensures { makers_faults result ≡ 0 }
+        ensures faults { makers_faults result ≡ 0 }
+        ensures calls { BeginsWith result.calls calls.items }
+        ensures puts { result.puts ≡ puts }
+        ensures fetches { result.fetches ≡ fetches }
     {
         FailingSpools {
             alloc,
@@ -158,7 +189,9 @@ impl FailingSpools {
 
     // A spool that fails as this maker's spools do.
     fn make(&self) -> Result<FailingSpool, AllocError>
-        ensures { IfOk result (λ spool. (number : ℕ) → failing_piece_of spool number ≡ None) }
+        ensures empty { IfOk result (λ spool. (number : ℕ) → failing_piece_of spool number ≡ None) }
+        ensures puts { IfOk result (λ spool. BeginsWith spool.puts self.now.puts.items) }
+        ensures fetches { IfOk result (λ spool. BeginsWith spool.fetches self.now.fetches.items) }
     {
         Ok(FailingSpool {
             spool: MemorySpool::new(self.alloc),
@@ -171,7 +204,8 @@ impl FailingSpools {
 impl Spools for FailingSpools {
     type S = FailingSpool;
 
-    ghost use Rattle.apx_device.specs.MemorySpool.{makers_faults};
+    ghost use Rattle.apx_device.specs.Failing.{BeginsWith, CalledOnce, NextFails};
+    ghost use Rattle.apx_device.specs.MemorySpool.{failing_piece_of, makers_faults};
 
     ghost faults = { makers_faults };
 
@@ -179,10 +213,96 @@ impl Spools for FailingSpools {
         self.calls.faults
     }
 
-    fn fresh(&mut self) -> Result<FailingSpool, SpoolsRefusal> {
+    fn fresh(&mut self) -> Result<FailingSpool, SpoolsRefusal>
+        ensures empty { IfOk result (λ spool. (number : ℕ) → failing_piece_of spool number ≡ None) }
+        ensures cause { HasCause (makers_faults self.old) (makers_faults self.new) (result ≡ Err SpoolsRefusal.Failed) }
+
+        // It fails exactly at the calls that are to fail, and its spools at the puts and fetches that are to fail.
+        ensures called { CalledOnce self.old.calls self.new.calls (result ≡ Err SpoolsRefusal.Failed) }
+        ensures only { result ≡ Err SpoolsRefusal.Failed → NextFails self.old.calls }
+        ensures puts { IfOk result (λ spool. BeginsWith spool.puts self.old.puts.items) }
+        ensures fetches { IfOk result (λ spool. BeginsWith spool.fetches self.old.fetches.items) }
+    {
         if self.calls.next_fails() {
             return Err(SpoolsRefusal::Failed);
         }
         self.make().map_err(|_| SpoolsRefusal::Memory)
+    }
+}
+
+/// A spool in memory that tells nothing: under one number it gives other bytes than were put there.
+#[derive(Drop)]
+pub struct WrongSpool {
+    spool: MemorySpool,
+    /// The number under which it gives the wrong piece.
+    number: u64,
+    /// What it gives there.
+    wrong: Vec<u8>,
+}
+
+impl Spool for WrongSpool {
+    type Fault = Infallible;
+
+    ghost use Rattle.apx_device.specs.MemorySpool.{wrong_piece_of};
+
+    ghost tells = { false };
+
+    ghost held = { wrong_piece_of };
+
+    fn put(&mut self, number: u64, piece: &[u8]) -> Result<(), SpoolRefusal<Infallible>> {
+        self.spool.put(number, piece)
+    }
+
+    fn fetch(&mut self, alloc: Global, number: u64) -> Result<Vec<u8>, SpoolRefusal<Infallible>> {
+        if number == self.number {
+            return self.wrong.to_vec(alloc).map_err(|_| SpoolRefusal::Memory);
+        }
+        self.spool.fetch(alloc, number)
+    }
+
+    fn forget(&mut self, number: u64) {
+        self.spool.forget(number);
+    }
+}
+
+/// Makes spools in memory that give one wrong piece.
+#[derive(Drop)]
+pub struct WrongSpools {
+    alloc: Global,
+    number: u64,
+    wrong: Vec<u8>,
+}
+
+impl WrongSpools {
+    /// A maker of spools that give these bytes under the number, whatever was put there.
+    pub fn new(alloc: Global, number: u64, wrong: Vec<u8>) -> Self
+        ensures { result ≡ record { alloc = alloc; number = number; wrong = wrong } }
+    {
+        WrongSpools {
+            alloc,
+            number,
+            wrong,
+        }
+    }
+}
+
+impl Spools for WrongSpools {
+    type S = WrongSpool;
+
+    ghost faults = { λ _. 0 };
+
+    fn faults(&self) -> u64 {
+        0
+    }
+
+    fn fresh(&mut self) -> Result<WrongSpool, SpoolsRefusal> {
+        let Ok(wrong) = self.wrong.to_vec(self.alloc) else {
+            return Err(SpoolsRefusal::Memory);
+        };
+        Ok(WrongSpool {
+            spool: MemorySpool::new(self.alloc),
+            number: self.number,
+            wrong,
+        })
     }
 }

@@ -1,6 +1,6 @@
 // An output, as standard output is.
 ghost use Rattle.std.specs.Prelude.{◌≡◌, ◌<◌, ◌≤◌, ◌++◌, Bool, ℕ, List, length, take, IsTrue, IsErr, IfOk, OnErr};
-ghost use Rattle.apx_device.specs.Cause.{HasCause};
+ghost use Rattle.apx_cause.specs.Cause.{HasCause};
 ghost use Rattle.apx_device.specs.Out.{GotFront};
 
 use thiserror::Error;

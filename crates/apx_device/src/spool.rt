@@ -1,6 +1,6 @@
 // Spools: where a list puts its older blocks, each under a number.
 ghost use Rattle.std.specs.Prelude.{◌≡◌, Bool, ℕ, List, Option, Some, None, IsTrue, IsSome, IfOk, OnOk, OnErr};
-ghost use Rattle.apx_device.specs.Cause.{HasCause};
+ghost use Rattle.apx_cause.specs.Cause.{HasCause};
 ghost use Rattle.apx_device.specs.Spool.{KeepsOthers};
 
 use std::alloc::Global;

@@ -158,3 +158,134 @@ fn makers_and_spools_fail_by_number(rt: HostRuntime) -> Result<(), Fail> {
     assert_eq!(rt; spool.fetch(alloc, 0)?.as_slice(), b"ab".as_slice());
     Ok(())
 }
+
+// The id of a state after a window.
+fn save_id(op: u16, window: u32) -> SaveId {
+    SaveId {
+        op,
+        boundary: 0,
+        part: 0,
+        window,
+    }
+}
+
+#[test]
+fn a_state_is_kept_until_it_is_dropped(rt: HostRuntime) -> Result<(), Fail> {
+    let alloc = rt.alloc();
+    let mut vault = MemoryVault::new(alloc);
+    vault.put(save_id(1, 2), b"a")?;
+    vault.put(save_id(1, 4), b"bc")?;
+    vault.put(save_id(0, 4), b"d")?;
+    vault.put(save_id(1, 2), b"e")?;
+    assert_eq!(rt;
+        vault.get(alloc, save_id(1, 2))?.as_slice(),
+        b"e".as_slice()
+    );
+    vault.drop_below(4)?;
+    assert_eq!(rt; vault.get(alloc, save_id(1, 2))?.len(), 0);
+    assert_eq!(rt;
+        vault.get(alloc, save_id(1, 4))?.as_slice(),
+        b"bc".as_slice()
+    );
+    assert_eq!(rt;
+        vault.get(alloc, save_id(0, 4))?.as_slice(),
+        b"d".as_slice()
+    );
+    assert!(rt; vault.sound() && vault.faults() == 0);
+    Ok(())
+}
+
+#[test]
+fn calls_of_a_vault_fail_by_number(rt: HostRuntime) -> Result<(), Fail> {
+    let alloc = rt.alloc();
+    let calls = [2, 4, 5].to_vec(alloc)?;
+    let mut vault = FailingVault::new(MemoryVault::new(alloc), calls);
+    vault.put(save_id(1, 2), b"a")?;
+    assert_eq!(rt; vault.put(save_id(1, 2), b"b"), Err(VaultRefusal::Failed));
+    assert_eq!(rt;
+        vault.get(alloc, save_id(1, 2))?.as_slice(),
+        b"a".as_slice()
+    );
+    assert_eq!(rt;
+        vault.get(alloc, save_id(1, 2)).err(),
+        Some(VaultRefusal::Failed)
+    );
+    assert_eq!(rt; vault.drop_below(4), Err(VaultRefusal::Failed));
+    assert_eq!(rt;
+        vault.get(alloc, save_id(1, 2))?.as_slice(),
+        b"a".as_slice()
+    );
+    vault.drop_below(4)?;
+    assert_eq!(rt; vault.get(alloc, save_id(1, 2))?.len(), 0);
+    assert!(rt; vault.sound() && vault.faults() == 3);
+    Ok(())
+}
+
+#[test]
+fn untelling_devices_answer_by_what_they_were_given(rt: HostRuntime) -> Result<(), Fail> {
+    let alloc = rt.alloc();
+    let mut contents = Vec::new(alloc);
+    contents.push(b"first".to_vec(alloc)?)?;
+    contents.push(b"second".to_vec(alloc)?)?;
+    let mut folder = ListedFolder::new(contents);
+    assert_eq!(rt; folder.read(alloc, "a", 5)?.as_slice(), b"first".as_slice());
+    assert_eq!(rt;
+        folder.read(alloc, "a", 5).err(),
+        Some(ReadRefusal::TooLong)
+    );
+    assert_eq!(rt; folder.read(alloc, "a", 5).err(), Some(ReadRefusal::Absent));
+    assert_eq!(rt; folder.faults(), 0);
+
+    let mut vault = GivenVault::new(b"given".to_vec(alloc)?);
+    vault.put(save_id(1, 2), b"kept")?;
+    vault.drop_below(4)?;
+    assert_eq!(rt;
+        vault.get(alloc, save_id(1, 2))?.as_slice(),
+        b"given".as_slice()
+    );
+    assert!(rt; vault.sound() && vault.faults() == 0);
+
+    let mut maker = WrongSpools::new(alloc, 1, b"wrong".to_vec(alloc)?);
+    let mut spool = maker.fresh()?;
+    spool.put(0, b"right")?;
+    spool.put(1, b"right")?;
+    assert_eq!(rt; spool.fetch(alloc, 0)?.as_slice(), b"right".as_slice());
+    assert_eq!(rt; spool.fetch(alloc, 1)?.as_slice(), b"wrong".as_slice());
+    spool.forget(0);
+    assert_eq!(rt; maker.faults(), 0);
+    Ok(())
+}
+
+#[test]
+fn reads_and_commits_of_a_keeper_fail_by_number(rt: HostRuntime) -> Result<(), Fail> {
+    let alloc = rt.alloc();
+    let rows = two_rows(alloc)?;
+    let calls = [2].to_vec(alloc)?;
+    let mut keeper = FailingKeeper::new(MemoryKeeper::new(alloc), calls, false);
+    keeper.commit(1, &rows)?;
+    assert_eq!(rt; keeper.rows(alloc, 1).err(), Some(KeepRefusal::Failed));
+    assert!(rt; keeper.rows(alloc, 1)? == rows);
+    Ok(())
+}
+
+#[test]
+fn rows_are_ten_bytes_beside_their_keys(rt: HostRuntime) -> Result<(), Fail> {
+    let alloc = rt.alloc();
+    let rows = two_rows(alloc)?;
+    let mut bytes = Vec::new(alloc);
+    append_rows(&rows, &mut bytes)?;
+    let spelled = [
+        0, 1, 97, 0, 0, 0, 0, 0, 0, 0, 2, 0, 1, 98, 255, 255, 255, 255, 255, 255, 255, 255,
+    ];
+    assert_eq!(rt; bytes.as_slice(), spelled.as_slice());
+    assert!(rt; read_rows(alloc, 2, &bytes)? == Some(rows));
+    assert!(rt; read_rows(alloc, 1, &bytes)?.is_none());
+    assert!(rt; read_rows(alloc, 3, &bytes)?.is_none());
+    Ok(())
+}
+
+#[test]
+fn a_gate_lets_a_worker_pass() {
+    NoGate.pass(PassKind::Claimed, 1, 0, 4);
+    NoGate.pass(PassKind::Ready, 1, 0, 4);
+}

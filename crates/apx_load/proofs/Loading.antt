@@ -1,6 +1,6 @@
 -- What the inputs of the operators before one say of all.
 use Rattle.std.proofs.Common.{◌≡◌, ℕ, zero, suc, ◌+◌, ◌<◌, ◌≤◌, inl, inr, Bool, IsTrue, List, [], ◌∷◌, ◌++◌, length, Option, take, get_or, add-one, arith, subst}
-use Rattle.apx_device.specs.Cause.{Rose}
+use Rattle.apx_cause.specs.Cause.{Rose}
 use Rattle.apx_pass.specs.Graph.{Node, node_at}
 use Rattle.apx_pass.specs.Groups.{Input}
 use Rattle.apx_load.specs.declared.refusal.Refusal.{Refusal}

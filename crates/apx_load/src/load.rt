@@ -1,6 +1,6 @@
 //! Reading the files of a run.
 ghost use Rattle.std.specs.Prelude.{◌≡◌, ◌≤◌, true, IsTrue, IfOk, IfErr};
-ghost use Rattle.apx_device.specs.Cause.{Rose};
+ghost use Rattle.apx_cause.specs.Cause.{Rose};
 ghost use Rattle.apx_dag.specs.Valid.{IsRole};
 ghost use Rattle.apx_input.specs.Refusals.{Reports};
 ghost use Rattle.apx_pass.specs.Groups as groups;

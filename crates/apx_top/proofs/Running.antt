@@ -2,7 +2,7 @@
 use Rattle.std.proofs.Common.{◌≡◌, ℕ, ◌≤◌, inr, List, [], ◌∷◌, ◌++◌, length, take, refl, sym, ap, ◌∙◌, subst, arith, Bool, IsTrue, IfErr, OnOk}
 use Rattle.std.specs.Prelude.{Result, Ok, Err, ⊤, Option}
 use Rattle.apx_tuple.specs.declared.tuple.Tuple.{Tuple}
-use Rattle.apx_device.specs.Cause.{Rose}
+use Rattle.apx_cause.specs.Cause.{Rose}
 use Rattle.apx_device.specs.Out.{GotFront}
 use Rattle.apx_pass.specs.Graph.{Node}
 use Rattle.apx_pass.specs.Groups.{Input}

@@ -1,6 +1,6 @@
 //! The whole program on one thread, from its words to its status.
 ghost use Rattle.std.specs.Prelude.{◌≡◌, ◌≤◌, ◌++◌, IsTrue, IsErr, IfErr, IfOk, OnOk, codes, map, string_bytes};
-ghost use Rattle.apx_device.specs.Cause.{Rose};
+ghost use Rattle.apx_cause.specs.Cause.{Rose};
 ghost use Rattle.apx_device.specs.Out.{GotFront};
 ghost use Rattle.apx_pass.specs.Pass.{Dataflow};
 ghost use Rattle.apx_load.specs.declared.refusal.Refusal.{Refusal};

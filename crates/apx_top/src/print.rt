@@ -1,6 +1,6 @@
 //! Printing the windows that the keeper holds.
 ghost use Rattle.std.specs.Prelude.{◌≡◌, ◌≤◌, ◌-◌, List, Some, length, IsTrue, IfErr, OnOk, slice_get, take};
-ghost use Rattle.apx_device.specs.Cause.{Rose};
+ghost use Rattle.apx_cause.specs.Cause.{Rose};
 ghost use Rattle.apx_tuple.specs.declared.tuple.Tuple.{Tuple};
 ghost use Rattle.apx_pass.specs.Texts.{window_text as text_of, windows_text};
 ghost use Rattle.apx_top.specs.Print.{IsPrintStop};

@@ -1,6 +1,6 @@
 //! The status of a run that stopped, and the line that says why.
 ghost use Rattle.std.specs.Prelude.{◌≡◌, ◌≤◌, ◌++◌, codes, decimal, IsErr};
-ghost use Rattle.apx_device.specs.Cause.{Rose};
+ghost use Rattle.apx_cause.specs.Cause.{Rose};
 ghost use Rattle.apx_top.specs.Lines.{refusal_status, status_of, cause_text, blank_before, refusal_line, line_of};
 ghost use Rattle.apx_top.specs.Sent.{HasWritten};
 

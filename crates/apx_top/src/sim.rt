@@ -1,6 +1,6 @@
 //! A run of an application on one thread.
 ghost use Rattle.std.specs.Prelude.{◌≡◌, ◌≤◌, IsTrue, IfErr, OnOk};
-ghost use Rattle.apx_device.specs.Cause.{Rose};
+ghost use Rattle.apx_cause.specs.Cause.{Rose};
 ghost use Rattle.apx_pass.specs.Pass.{Dataflow};
 ghost use Rattle.apx_top.specs.Run.{HasLeft, HasRun, IsAcceptedRun, IsSimStop};
 

@@ -1,6 +1,6 @@
 //! Storing the windows of a run.
 ghost use Rattle.std.specs.Prelude.{◌≡◌, ◌<◌, ◌≤◌, ◌+◌, ◌++◌, ◌∷◌, [], suc, IsTrue, IfOk, IfErr, OnOk};
-ghost use Rattle.apx_device.specs.Cause.{Rose};
+ghost use Rattle.apx_cause.specs.Cause.{Rose};
 ghost use Rattle.apx_pass.specs.Pass.{windows_of, rows_at, sink_of, mean};
 ghost use Rattle.apx_mean.specs.Passing.{dataflow_of};
 ghost use Rattle.apx_top.specs.Store.{HoldsPrefix, IsStoreStop, LeftByCommit, IsCommitStop};

@@ -1,6 +1,6 @@
 //! Writing whole pieces to an output.
 ghost use Rattle.std.specs.Prelude.{◌≡◌, ◌≤◌, ◌++◌, IsErr};
-ghost use Rattle.apx_device.specs.Cause.{Rose};
+ghost use Rattle.apx_cause.specs.Cause.{Rose};
 ghost use Rattle.apx_top.specs.Sent.{HasWritten};
 
 use apx_device::{Failed, Out};

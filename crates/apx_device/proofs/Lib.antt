@@ -1,0 +1,4 @@
+pub mod Hearing
+pub mod Lookups
+pub mod Saves
+pub mod Spelled
