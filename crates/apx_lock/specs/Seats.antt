@@ -1,5 +1,5 @@
 -- What contracts see of a seat and of a turn.
-use Rattle.std.specs.Prelude.{◌≡◌, ℕ, ◌+◌, Bool, true, false, List, [], ◌∷◌, length, Option, Some, None}
+use Rattle.std.specs.Prelude.{◌≡◌, ℕ, Bool, true, false, List, [], ◌∷◌, length, Option, Some, None}
 use Rattle.atomic_table.specs.Seated.{TableId}
 use Rattle.apx_lock.specs.declared.rule.Terms.{Terms}
 use Rattle.apx_lock.specs.declared.view.View.{View}
@@ -18,6 +18,6 @@ carried false = []
 abbrev pub IsSeatOf : {N E : Type 0} → TableId → Terms N → Seated N E → Type 0
 IsSeatOf table terms s = (s.table ≡ table) × (s.view.name ≡ Some terms.name) × (length s.view.marks ≡ terms.marks)
 
--- the turn of the seat: at which table it was taken, its terms, and the number of entries found
+-- the turn is one of the seat's: at that table, with these terms, where the seat had seen so many entries
 abbrev pub IsTurnOf : {N E : Type 0} → TableId → Terms N → ℕ → Seated N E → Type 0
-IsTurnOf table terms base s = IsSeatOf table terms s × (base ≡ length s.view.seen) × (table.words ≡ terms.marks + 2) × (table.slots ≡ 1)
+IsTurnOf table terms base s = IsSeatOf table terms s × (base ≡ length s.view.seen)

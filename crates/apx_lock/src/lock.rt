@@ -15,7 +15,13 @@ use crate::turn::{Turn, TurnOver};
 use crate::view::View;
 use atomic_table::Table;
 use std::alloc::Global;
+use std::hint::spin_loop;
 use std::sync::Wait;
+use std::sync::atomic::AtomicU64;
+use std::sync::atomic::Ordering::SeqCst;
+
+/// How often a thread looks at a turn that is taken before it sleeps: a turn is mostly short.
+const SPINS: u32 = 100;
 
 /// A lock round a value that stands for a log.
 ///
@@ -34,6 +40,8 @@ use std::sync::Wait;
 pub struct MarkLock<V: Kept> {
     pub(crate) table: Table<Option<V>, View<V::Name, V::Entry>, Terms<V::Name>, Law, Global>,
     pub(crate) marks: u8,
+    // How many threads sleep until the turn is given back, or are about to. Each wakes one where it leaves.
+    pub(crate) waiting: AtomicU64,
     ghost counts: { (table.shared.table_id.words ≡ marks + 2) × (table.shared.table_id.slots ≡ 1) × (table.shared.key.marks ≡ marks) × (marks ≤ 64) },
 }
 
@@ -52,8 +60,8 @@ impl<V: Kept> MarkLock<V> {
         requires idle { seat.old.view.holds ≡ false }
         ensures none { IfNone result ((seat.new.table ≡ seat.old.table) × (seat.new.view ≡ after_refusal seat.old.view)) }
         ensures entered { IfSome result (λ turn. Entered V.seat V.bound seat.old.view seat.new.view) }
-        ensures turn { IfSome result (λ turn. IsTurnOf turn.desk.now.table_id turn.desk.now.key turn.base seat.new) }
-        ensures same { IfSome result (λ turn. (turn.desk.now.table_id ≡ self.now.table.shared.table_id) × (turn.desk.now.key ≡ self.now.table.shared.key)) }
+        ensures turn { IfSome result (λ turn. IsTurnOf turn.lock.now.table.shared.table_id turn.lock.now.table.shared.key turn.base seat.new) }
+        ensures same { IfSome result (λ turn. (turn.lock.now.table.shared.table_id ≡ self.now.table.shared.table_id) × (turn.lock.now.table.shared.key ≡ self.now.table.shared.key)) }
         ensures value { IfSome result (λ turn. V.stands turn.value self.now.table.shared.key.name seat.new.view.seen) }
     {
         let desk = &self.table.shared;
@@ -62,7 +70,11 @@ impl<V: Kept> MarkLock<V> {
         }
         let value = desk.exchange(&mut seat.place, 0, None).unwrap();
         let base = desk.load::<Look>(&mut seat.place, 1);
-        Some(TurnOver { desk, value, base })
+        Some(TurnOver {
+            lock: self,
+            value,
+            base,
+        })
     }
 
     /// Takes the turn, and waits for it where another thread has it.
@@ -70,17 +82,37 @@ impl<V: Kept> MarkLock<V> {
         requires seat { IsSeatOf self.now.table.shared.table_id self.now.table.shared.key seat.old }
         requires idle { seat.old.view.holds ≡ false }
         ensures entered { Entered V.seat V.bound seat.old.view seat.new.view }
-        ensures turn { IsTurnOf result.desk.now.table_id result.desk.now.key result.base seat.new }
-        ensures same { (result.desk.now.table_id ≡ self.now.table.shared.table_id) × (result.desk.now.key ≡ self.now.table.shared.key) }
+        ensures turn { IsTurnOf result.lock.now.table.shared.table_id result.lock.now.table.shared.key result.base seat.new }
+        ensures same { (result.lock.now.table.shared.table_id ≡ self.now.table.shared.table_id) × (result.lock.now.table.shared.key ≡ self.now.table.shared.key) }
         ensures value { V.stands result.value self.now.table.shared.key.name seat.new.view.seen }
     {
         for _ in rt.forever() {
             if let Some(turn) = self.try_enter(seat) {
                 return turn;
             }
-            self.table.shared.park(rt, 0, 1);
+            self.sleep(rt);
         }
         unreachable!()
+    }
+
+    // Waits a little for the turn to be free, and then sleeps until a thread that leaves wakes this one.
+    fn sleep<R: Wait>(&self, rt: &R) {
+        for _ in 0..SPINS {
+            if self.table.shared.peek(0) == 0 {
+                return;
+            }
+            spin_loop();
+        }
+        self.waiting.fetch_add(1, SeqCst);
+        self.table.shared.park(rt, 0, 1);
+        self.waiting.fetch_sub(1, SeqCst);
+    }
+
+    // Wakes a thread that sleeps, if there is one. It asks for nothing of the system where there is none.
+    pub(crate) fn wake(&self) {
+        if self.waiting.load(SeqCst) > 0 {
+            self.table.shared.wake_one(0);
+        }
     }
 
     /// Raises a mark that the seat owns.

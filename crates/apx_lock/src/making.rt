@@ -10,6 +10,7 @@ use crate::rule::Terms;
 use crate::seat::{Seat, SeatOver};
 use atomic_table::{Refused, Table};
 use std::alloc::{AllocError, Global};
+use std::sync::atomic::AtomicU64;
 
 // The words of a new lock, out of a row that is long enough.
 fn first_words(row: &[u64; 66], marks: u8) -> &[u64]
@@ -64,7 +65,12 @@ impl<V: Kept> MarkLock<V> {
                     number: 0,
                     given: 1,
                 };
-                Ok((MarkLock { table, marks }, seat))
+                let lock = MarkLock {
+                    table,
+                    marks,
+                    waiting: AtomicU64::new(0),
+                };
+                Ok((lock, seat))
             }
             Err(Refused { slots }) => Err((taken_back(slots), AllocError)),
         }
@@ -79,7 +85,11 @@ impl<V: Kept> MarkLock<V> {
         requires all { (n : ℕ) → n < seat.view.given → HasNumber seat.view n }
         ensures { Ends V.stands V.seat V.bound self.table.shared.key.name result seat.view }
     {
-        let MarkLock { table, marks: _ } = self;
+        let MarkLock {
+            table,
+            marks: _,
+            waiting: _,
+        } = self;
         let SeatOver {
             place,
             number: _,

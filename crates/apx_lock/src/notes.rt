@@ -74,10 +74,10 @@ impl Notes {
 
 /// Writes a number under the turn, and gives the turn back. Where there is no memory nothing is written.
 pub fn write_and_leave(mut turn: Turn<'_, Notes>, seat: &mut Seat<Notes>, number: u32)
-    requires turn { IsTurnOf turn.desk.now.table_id turn.desk.now.key turn.base seat.old }
+    requires turn { IsTurnOf turn.lock.now.table.shared.table_id turn.lock.now.table.shared.key turn.base seat.old }
     requires holds { seat.old.view.holds ≡ true }
     requires value { turn.value.list.items ≡ seat.old.view.seen }
-    ensures seat { IsSeatOf turn.entry.desk.now.table_id turn.entry.desk.now.key seat.new }
+    ensures seat { IsSeatOf turn.entry.lock.now.table.shared.table_id turn.entry.lock.now.table.shared.key seat.new }
     ensures same { IsSameSeat seat.old.view seat.new.view }
     ensures idle { seat.new.view.holds ≡ false }
 {
