@@ -1,17 +1,14 @@
 -- Raising a mark and loading it keep the rule.
-use Rattle.std.proofs.Common.{◌≡◌, ℕ, suc, ◌+◌, ◌<◌, ◌≤◌, ◌≢◌, ◌⊎◌, max, true, List, [], ◌∷◌, length, set, get_or, slice_index, slice_set, Option, Some, sym, refl, ap, ◌∙◌, subst, inl, inr, ⊎_elim, arith, length-set, le_trans, le_of_eq}
-use mathlib.Core.Option.{none, some, some-injective}
-use mathlib.Core.Logic.{dite}
-use native.Mathlib.Decide.{ℕ_discrete}
+use Rattle.std.proofs.Common.{◌≡◌, ℕ, suc, ◌≤◌, ◌≢◌, max, true, List, ◌∷◌, length, set, slice_index, slice_set, Option, Some, sym, refl, ap, ◌∙◌, subst, ⊎_elim, arith, length-set, le_trans, le_of_eq}
+use mathlib.Core.Option.{none, some}
 use lib.ListN.{get_elem?}
 use lib.Seq.{set-get_or}
 use Rattle.atomic_table.specs.Table.{State, Me, step, keeps, Allows}
 use Rattle.atomic_table.proofs.Lists.{at_set}
 use Rattle.apx_lock.specs.declared.view.Mark.{Mark}
 use Rattle.apx_lock.specs.declared.view.View.{View}
-use Rattle.apx_lock.specs.Logs.{Every}
-use Rattle.apx_lock.specs.Views.{Owns, with_mark, raised_mark, loaded_mark, after_raise, after_load}
-use Rattle.apx_lock.specs.Keeps.{Books, turn_word, MarkFits, Sits, Holds}
+use Rattle.apx_lock.specs.Views.{Owns, raised_mark, loaded_mark, after_raise, after_load}
+use Rattle.apx_lock.specs.Keeps.{Books, turn_word, Sits}
 use Rattle.apx_lock.specs.Steps.{Raises, Loads}
 use Rattle.apx_lock.proofs.Lists.{Every-weaker, at_inside, at_some, at_same, at_default, set_there}
 use Rattle.apx_lock.proofs.Marks.{length-with_mark, at_with_mark, owned_before, owned_after}

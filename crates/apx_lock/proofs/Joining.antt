@@ -1,17 +1,17 @@
 -- Joining a seat to another keeps the rule.
-use Rattle.std.proofs.Common.{◌≡◌, ℕ, ◌+◌, ◌<◌, ◌≤◌, ◌≢◌, ◌⊎◌, ◌==◌, Bool, true, false, cond, List, [], ◌∷◌, ◌++◌, length, set, Option, Some, None, sym, refl, ap, ◌∙◌, subst, inl, inr, ⊎_elim, arith, eq-eqb, ne_eqb, true≢false, nat_lt, ltb-true, ltb-false, lt-ltb}
-use mathlib.Core.Option.{none, some}
+use Rattle.std.proofs.Common.{◌≡◌, ℕ, ◌<◌, ◌≢◌, ◌⊎◌, ◌==◌, Bool, true, false, cond, List, ◌∷◌, length, set, Some, sym, refl, ap, ◌∙◌, subst, inl, inr, ⊎_elim, arith, eq-eqb, ne_eqb, true≢false, nat_lt, ltb-true, ltb-false}
+use mathlib.Core.Option.{some}
 use mathlib.Core.Logic.{dite}
 use native.Mathlib.Decide.{ℕ_discrete}
 use lib.ListN.{get_elem?}
-use Rattle.atomic_table.specs.Table.{State, Joins}
+use Rattle.atomic_table.specs.Table.{Joins}
 use Rattle.atomic_table.proofs.Lists.{set_here, set_else}
 use Rattle.apx_lock.specs.declared.view.Mark.{Mark}
 use Rattle.apx_lock.specs.declared.view.Part.{Part}
 use Rattle.apx_lock.specs.declared.view.View.{View}
-use Rattle.apx_lock.specs.Logs.{Every, StartsWith, longer, entries_of}
-use Rattle.apx_lock.specs.Views.{IsPart, Owns, HasNumber, spent, joined_mark, joined_marks, joined_parts, after_join}
-use Rattle.apx_lock.specs.Keeps.{Books, HoldsOf, MarkFits, Sits, Holds}
+use Rattle.apx_lock.specs.Logs.{longer, entries_of}
+use Rattle.apx_lock.specs.Views.{IsPart, Owns, HasNumber, spent, joined_mark, after_join}
+use Rattle.apx_lock.specs.Keeps.{Books, HoldsOf, MarkFits, Sits}
 use Rattle.apx_lock.proofs.Lists.{Every-append, at_inside, at_some, at_same, set_each, set_there, starts_longest, longest_whole}
 use Rattle.apx_lock.proofs.Marks.{length-joined_marks, at_joined_marks, joined_marks_at}
 use Rattle.apx_lock.proofs.Entries.{part_of_append}

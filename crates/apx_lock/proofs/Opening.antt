@@ -1,14 +1,13 @@
 -- The rule holds as a lock is made, and what it says as one is closed.
-use Rattle.std.proofs.Common.{◌≡◌, ℕ, zero, suc, ◌+◌, ◌<◌, ◌≤◌, ◌≢◌, ◌⊎◌, true, false, List, [], ◌∷◌, length, replicate, Option, Some, None, sym, refl, ap, ◌∙◌, subst, inl, inr, ⊎_elim, arith, true≢false}
+use Rattle.std.proofs.Common.{◌≡◌, ℕ, zero, suc, ◌<◌, ◌≤◌, true, false, List, [], ◌∷◌, replicate, Option, Some, sym, refl, ap, ◌∙◌, subst, inl, inr, ⊎_elim, arith, true≢false}
 use mathlib.Core.Option.{none, some, some-injective, some-ne-none}
 use Rattle.std.proofs.lemmas.List.{length-replicate}
 use lib.ListN.{get_elem?}
 use Rattle.atomic_table.specs.Table.{State, opening, Final, Seen}
 use Rattle.apx_lock.specs.declared.view.Mark.{Mark}
 use Rattle.apx_lock.specs.declared.view.View.{View}
-use Rattle.apx_lock.specs.Logs.{Every, StartsWith, entries_of}
-use Rattle.apx_lock.specs.Views.{Owns, HasNumber, IsPart, spent, first_view, zeros}
-use Rattle.apx_lock.specs.Keeps.{Books, HoldsOf, Sits, IsAtHome, Holds, Keeps}
+use Rattle.apx_lock.specs.Views.{HasNumber, spent, first_view, zeros}
+use Rattle.apx_lock.specs.Keeps.{Books, Sits, IsAtHome, Holds}
 use Rattle.apx_lock.specs.Steps.{Ends}
 use Rattle.apx_lock.proofs.Lists.{Every-weaker, at_same, at_replicate}
 use Rattle.apx_lock.proofs.Places.{Rule, acting}

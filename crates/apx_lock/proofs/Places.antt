@@ -1,13 +1,12 @@
 -- What a step that changes one view keeps.
-use Rattle.std.proofs.Common.{◌≡◌, ℕ, ◌+◌, ◌<◌, ◌≤◌, ◌≢◌, ◌⊎◌, true, List, [], ◌∷◌, ◌++◌, length, set, Option, Some, None, sym, refl, ap, ◌∙◌, subst, inl, inr, ⊎_elim, arith}
+use Rattle.std.proofs.Common.{◌≡◌, ℕ, ◌<◌, ◌≤◌, ◌≢◌, ◌⊎◌, true, List, ◌∷◌, length, set, Option, Some, None, sym, ap, ◌∙◌, subst, inl, inr, ⊎_elim, arith}
 use mathlib.Core.Option.{none, some, some-injective, some-ne-none}
 use lib.ListN.{get_elem?}
-use Rattle.atomic_table.specs.Table.{State, Me}
-use Rattle.apx_lock.specs.declared.view.Mark.{Mark}
+use Rattle.atomic_table.specs.Table.{State}
 use Rattle.apx_lock.specs.declared.view.View.{View}
-use Rattle.apx_lock.specs.Logs.{Every, StartsWith, entries_of}
-use Rattle.apx_lock.specs.Views.{IsPart, Owns, HasNumber, spent}
-use Rattle.apx_lock.specs.Keeps.{Books, turn_word, MarkFits, HoldsOf, Sits, IsAtHome, Holds, Keeps}
+use Rattle.apx_lock.specs.Logs.{Every}
+use Rattle.apx_lock.specs.Views.{Owns, spent}
+use Rattle.apx_lock.specs.Keeps.{Books, turn_word, HoldsOf, Sits, IsAtHome, Holds, Keeps}
 use Rattle.apx_lock.specs.Steps.{IsWhole}
 use Rattle.apx_lock.proofs.Lists.{set_each, set_there, at_inside, at_some}
 

@@ -1,18 +1,18 @@
 -- Splitting a seat keeps the rule.
 use Rattle.std.proofs.Common.{◌≡◌, ℕ, ◌+◌, ◌<◌, ◌≤◌, ◌≢◌, ◌⊎◌, ◌==◌, Bool, true, false, cond, List, [], ◌∷◌, ◌++◌, map, length, set, Option, Some, None, sym, refl, ap, ◌∙◌, subst, inl, inr, ⊎_elim, arith, length-set, eq-eqb, ne_eqb, true≢false, zero-le}
-use mathlib.Core.Option.{none, some}
+use mathlib.Core.Option.{some}
 use mathlib.Core.Logic.{dite}
 use Rattle.std.proofs.lemmas.List.{length-map}
 use native.Mathlib.Decide.{ℕ_discrete}
 use lib.ListN.{get_elem?}
-use Rattle.atomic_table.specs.Table.{State, Splits}
+use Rattle.atomic_table.specs.Table.{Splits}
 use Rattle.atomic_table.proofs.Lists.{at_longer, at_last}
 use Rattle.apx_lock.specs.declared.view.Mark.{Mark}
 use Rattle.apx_lock.specs.declared.view.View.{View}
-use Rattle.apx_lock.specs.Logs.{Every, entries_of}
-use Rattle.apx_lock.specs.Views.{Owns, HasNumber, spent, with_mark, owned_mark, new_mark, handed, MayHand, after_split, dealt_view}
-use Rattle.apx_lock.specs.Keeps.{Books, HoldsOf, Sits, Holds}
-use Rattle.apx_lock.proofs.Lists.{Every-weaker, at_inside, at_same, at_end, at_map_inv, set_each, set_there}
+use Rattle.apx_lock.specs.Logs.{Every}
+use Rattle.apx_lock.specs.Views.{Owns, spent, owned_mark, new_mark, handed, MayHand, after_split, dealt_view}
+use Rattle.apx_lock.specs.Keeps.{Books, HoldsOf, Sits}
+use Rattle.apx_lock.proofs.Lists.{Every-weaker, at_same, at_end, at_map_inv, set_each, set_there}
 use Rattle.apx_lock.proofs.Marks.{length-with_mark, at_with_mark, with_mark_here, with_mark_else}
 use Rattle.apx_lock.proofs.Entries.{none_of}
 use Rattle.apx_lock.proofs.Places.{Rule, acting}

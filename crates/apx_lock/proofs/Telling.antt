@@ -1,13 +1,10 @@
 -- What the steps of one call tell together.
-use Rattle.std.proofs.Common.{◌≡◌, ℕ, zero, suc, ◌+◌, ◌<◌, ◌≤◌, ◌≢◌, ◌⊎◌, Bool, true, false, List, [], ◌∷◌, ◌++◌, length, replicate, take, Option, Some, None, sym, refl, ap, ◌∙◌, subst, inl, inr, ⊎_elim, arith, length-append, le_refl, le_trans}
-use mathlib.Core.Option.{none, some}
-use lib.ListN.{get_elem?}
+use Rattle.std.proofs.Common.{◌≡◌, ℕ, zero, suc, ◌+◌, ◌≤◌, ◌≢◌, true, List, [], ◌∷◌, ◌++◌, length, take, Option, Some, sym, refl, ap, ◌∙◌, subst, ⊎_elim, arith, length-append, le_refl, le_trans}
 use Rattle.atomic_table.specs.Table.{Me, rest}
-use Rattle.apx_lock.specs.declared.view.Mark.{Mark}
 use Rattle.apx_lock.specs.declared.view.View.{View}
 use Rattle.apx_lock.specs.Logs.{StartsWith}
 use Rattle.apx_lock.specs.Seats.{carried}
-use Rattle.apx_lock.specs.Views.{zeros, after_take, after_look, after_refusal, after_entry}
+use Rattle.apx_lock.specs.Views.{zeros, after_take, after_look, after_refusal}
 use Rattle.apx_lock.specs.Steps.{IsWhole, MayAdd, MayLeave, Counts, Entered}
 
 module _ {N E : Type 0} (seat bound : E → ℕ) where

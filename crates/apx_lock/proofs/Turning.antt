@@ -1,19 +1,17 @@
 -- The steps of a turn keep the rule: taking it or finding it taken, reading the count, counting an entry, giving it back.
-use Rattle.std.proofs.Common.{◌≡◌, ℕ, ◌+◌, ◌%◌, ◌^◌, ◌<◌, ◌≤◌, ◌≢◌, ◌⊎◌, true, false, List, [], ◌∷◌, ◌++◌, length, set, slice_index, slice_set, Option, Some, None, sym, refl, ap, ◌∙◌, subst, inl, inr, ⊎_elim, arith, ◌==◌, length-append, mod-eq_of_lt, le_trans, append-nil}
+use Rattle.std.proofs.Common.{◌≡◌, ℕ, ◌+◌, ◌%◌, ◌^◌, ◌<◌, ◌≤◌, ◌≢◌, true, List, [], ◌∷◌, ◌++◌, length, set, slice_index, slice_set, Option, Some, sym, refl, ap, ◌∙◌, subst, inl, inr, arith, ◌==◌, length-append, mod-eq_of_lt, le_trans, append-nil}
 use mathlib.Core.Option.{none, some, some-injective, some-ne-none}
 use lib.ListN.{get_elem?}
 use lib.Seq.{set-get_or}
 use prog.Atomic.{either}
-use Rattle.atomic_table.specs.Table.{State, Me, Act, step, keeps, takes, gives, Allows, Valid, homes_after, carried_after, put_back, rest}
-use Rattle.apx_lock.specs.declared.view.Mark.{Mark}
+use Rattle.atomic_table.specs.Table.{State, Me, Act, step, keeps, takes, gives, Allows, Valid, homes_after, carried_after, put_back}
 use Rattle.apx_lock.specs.declared.view.View.{View}
-use Rattle.apx_lock.specs.Logs.{Every, StartsWith, entries_of}
-use Rattle.apx_lock.specs.Views.{IsPart, Owns, HasNumber, spent, after_take, after_refusal, after_look, after_entry, after_leave}
-use Rattle.apx_lock.specs.Keeps.{Books, turn_word, MarkFits, HoldsOf, Sits, IsAtHome, Holds, Keeps}
-use Rattle.apx_lock.specs.Steps.{IsWhole, MayAdd, Takes, Tries, Looks, Counts, CountsOne, GivesBack}
-use Rattle.apx_lock.proofs.Lists.{Every-append, at_inside, at_some, set_there, starts_longer, starts_itself}
+use Rattle.apx_lock.specs.Views.{IsPart, HasNumber, after_take, after_refusal, after_look, after_entry, after_leave}
+use Rattle.apx_lock.specs.Keeps.{Books, turn_word, Sits, IsAtHome, Holds}
+use Rattle.apx_lock.specs.Steps.{MayAdd, Tries, Looks, CountsOne, GivesBack}
+use Rattle.apx_lock.proofs.Lists.{Every-append, at_inside, at_some, starts_longer, starts_itself}
 use Rattle.apx_lock.proofs.Entries.{one_own, one_other, parts_other}
-use Rattle.apx_lock.proofs.Places.{rewritten, S, Rule, Held, acting, is_whole, next, calm, counting, another_holder, one_holder}
+use Rattle.apx_lock.proofs.Places.{rewritten, Rule, acting, is_whole, next, calm, counting, another_holder, one_holder}
 use Rattle.atomic_table.proofs.Lists.{set_here}
 
 module _ {V N E : Type 0} (stands : V → N → List E → Type 0) (seat bound : E → ℕ) (name : N) (marks : ℕ) where

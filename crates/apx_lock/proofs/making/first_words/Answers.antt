@@ -1,4 +1,4 @@
-use Rattle.std.proofs.Common.{◌≡◌, ◌+◌, ℕ, List, take, ap, ◌∙◌, arith}
+use Rattle.std.proofs.Common.{◌+◌, ℕ, List, take, ap, ◌∙◌, arith}
 use Rattle.apx_lock.specs.Views.{zeros}
 use Rattle.apx_lock.proofs.Telling.{first_zeros}
 use Rattle.apx_lock.proofs.making.first_words.Goals as goal

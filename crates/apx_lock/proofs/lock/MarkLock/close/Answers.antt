@@ -1,5 +1,5 @@
-use Rattle.std.proofs.Common.{◌≡◌, ℕ, ◌<◌, Option, Some, is_some, sym, ap, ◌∙◌, subst}
-use mathlib.Core.Option.{some, some-injective}
+use Rattle.std.proofs.Common.{◌≡◌, ℕ, ◌<◌, Some, is_some, sym, ap, ◌∙◌, subst}
+use mathlib.Core.Option.{some-injective}
 use Rattle.apx_lock.specs.Views.{HasNumber}
 use Rattle.apx_lock.specs.Steps.{Ends}
 use Rattle.apx_lock.proofs.Opening.{closes}

@@ -1,4 +1,4 @@
-use Rattle.std.proofs.Common.{rules, ◌≡◌, false, [], length, ap, ◌∙◌}
+use Rattle.std.proofs.Common.{rules, length, ap, ◌∙◌}
 use Rattle.apx_lock.specs.Seats.{carried}
 use Rattle.apx_lock.proofs.Marks.{length-joined_marks}
 use Rattle.apx_lock.proofs.Joining.{joins}

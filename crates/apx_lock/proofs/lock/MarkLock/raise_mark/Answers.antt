@@ -1,4 +1,4 @@
-use Rattle.std.proofs.Common.{rules, ◌≡◌, ℕ, ◌+◌, ◌<◌, suc, length, sym, refl, ap, ◌∙◌, subst, arith, Some}
+use Rattle.std.proofs.Common.{rules, ◌≡◌, length, sym, ap, ◌∙◌, subst, arith}
 use Rattle.apx_lock.specs.Seats.{carried}
 use Rattle.apx_lock.specs.Views.{OwnsUpTo, raised_mark}
 use Rattle.apx_lock.proofs.Lists.{at_inside}

@@ -1,4 +1,4 @@
-use Rattle.std.proofs.Common.{rules, ◌≡◌, length, map, false, true, ap, ◌∙◌}
+use Rattle.std.proofs.Common.{length, map, false, true, ap, ◌∙◌}
 use Rattle.std.proofs.lemmas.List.{length-map}
 use Rattle.apx_lock.specs.Views.{new_mark}
 use Rattle.apx_lock.proofs.Splitting.{length-handed}

@@ -1,4 +1,4 @@
-use Rattle.std.proofs.Common.{rules, ◌≡◌, ◌∷◌, Some, true, sym, refl, ap, ◌∙◌}
+use Rattle.std.proofs.Common.{rules, ◌∷◌, Some, sym, ap, ◌∙◌}
 use Rattle.atomic_table.specs.Table.{rest}
 use Rattle.apx_lock.proofs.Turning.{tries, looks}
 use Rattle.apx_lock.proofs.Telling.{entered}

@@ -1,4 +1,4 @@
-use Rattle.std.proofs.Common.{rules, ◌≡◌, ℕ, ◌+◌, ◌<◌, true, [], ◌∷◌, ◌++◌, length, Some, sym, refl, ap, ◌∙◌, subst, arith, length-append}
+use Rattle.std.proofs.Common.{rules, ◌≡◌, [], ◌∷◌, ◌++◌, length, sym, ap, ◌∙◌, subst, arith, length-append}
 use Rattle.apx_lock.specs.Steps.{MayLeave, MayAdd}
 use Rattle.apx_lock.proofs.Turning.{counts, gives_back}
 use Rattle.apx_lock.proofs.Telling.{one_added, none_added, placed, ready, ready_counted, IsReady}
