@@ -6,14 +6,11 @@ use lib.ListN.{get_elem?}
 use Rattle.atomic_table.specs.Table.{State, opening, Final, Seen}
 use Rattle.apx_lock.specs.declared.view.Mark.{Mark}
 use Rattle.apx_lock.specs.declared.view.View.{View}
-use Rattle.apx_lock.specs.Views.{HasNumber, spent, first_view, zeros}
+use Rattle.apx_lock.specs.Views.{HasNumber, spent, first_view, zeros, first_mark}
 use Rattle.apx_lock.specs.Keeps.{Books, Sits, IsAtHome, Holds}
 use Rattle.apx_lock.specs.Steps.{Ends}
 use Rattle.apx_lock.proofs.Lists.{Every-weaker, at_same, at_replicate}
 use Rattle.apx_lock.proofs.Places.{Rule, acting}
-
-abbrev first_mark : Mark
-first_mark = record { owned = true; at = 0; lower = 0; loads = 0 }
 
 replicated : {A : Type 0} (n : ℕ) (x : A) (i : ℕ) → i < n → get_elem? (replicate n x) i ≡ some x
 replicated zero x i h = absurd (omega arith)

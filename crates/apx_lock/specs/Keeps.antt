@@ -53,7 +53,8 @@ module _ {N E : Type 0} where
     pub numbers : (n : ℕ) → HasNumber v n → (n < b.given) × (b.home n ≡ k)
     -- it knows of each mark, and no other view owns those that it owns
     pub wide : length v.marks ≡ length b.levels
-    pub marks : (j : ℕ) (m : Mark) (level : ℕ) → get_elem? v.marks j ≡ some m → get_elem? b.levels j ≡ some level → MarkFits level m
+    pub marks : (j : ℕ) (m : Mark) (level : ℕ) → get_elem? v.marks j ≡ some m → get_elem? b.levels j ≡ some level
+        → MarkFits level m
     pub owns : (j : ℕ) → Owns v j → b.owner j ≡ k
     -- where it holds the turn, no other does, and it has seen all
     pub holds : v.holds ≡ true → (b.holder ≡ some k) × (v.seen ≡ b.log)

@@ -6,7 +6,9 @@ use Rattle.apx_lock.specs.declared.view.View.{View}
 
 -- which table a seat is of, and what it knows
 pub record Seated (N E : Type 0) : Type 0 where
+  -- the table under the lock
   pub table : TableId
+  -- what the seat knows
   pub view : View N E
 
 -- what a seat carries: the empty slot, while it holds the turn

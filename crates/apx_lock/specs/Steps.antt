@@ -9,10 +9,12 @@ use Rattle.apx_lock.specs.Logs.{Every, StartsWith, entries_of}
 use Rattle.apx_lock.specs.Views.{HasNumber, after_take, after_refusal, after_look, after_entry, after_leave, after_raise, after_load}
 
 module _ {N E : Type 0} where
-  -- What a seat knows of the log that it has seen, where that is the whole log: which entries are its own and whose are those that it keeps, and that no entry has a bound above a mark that it owns
+  -- What a seat knows of the log that it has seen, where that is the whole log
   pub record IsWhole (seat bound : E → ℕ) (v : View N E) : Type 0 where
+    -- its own entries are all those with its number, and so are those of each seat that was joined to it
     pub own : v.mine ≡ entries_of seat v.number v.seen
     pub parts : Every (λ p. p.entries ≡ entries_of seat p.number v.seen) v.kept
+    -- no entry has a bound above a mark that it owns
     pub bounds : (j : ℕ) (m : Mark) → get_elem? v.marks j ≡ some m → m.owned ≡ true → Every (λ e. bound e ≤ m.at) v.seen
 
   -- the entry may be added: it bears the seat's number, and its bound isn't above what the seat loaded of any mark
@@ -68,7 +70,8 @@ module _ {V N E : Type 0} (stands : V → N → List E → Type 0) (seat bound :
   pub record Counts (m n : Me (Option V) (View N E)) : Type 0 where
     pub entry : E
     pub may : MayAdd seat bound m.0 entry
-    pub stand : (value : V) (name : N) → m.1 ≡ (0, Some value) ∷ [] → m.0.name ≡ Some name → stands value name (m.0.seen ++ entry ∷ [])
+    pub stand : (value : V) (name : N) → m.1 ≡ (0, Some value) ∷ [] → m.0.name ≡ Some name
+        → stands value name (m.0.seen ++ entry ∷ [])
     pub after : n ≡ (after_entry entry m.0, m.1)
 
   abbrev pub CountsOne : Step (Option V) → Sat → ℕ → Sat → Type 0
@@ -84,7 +87,8 @@ module _ {V N E : Type 0} (stands : V → N → List E → Type 0) (seat bound :
 
   -- a mark was loaded: it isn't below what an earlier load found
   abbrev pub Loads : Step (Option V) → Sat → ℕ → Sat → Type 0
-  Loads st m found n = (j : ℕ) → st.word ≡ 2 + j → (n ≡ (after_load j found m.0, m.1)) × ((k : Mark) → get_elem? m.0.marks j ≡ some k → k.lower ≤ found)
+  Loads st m found n = (j : ℕ) → st.word ≡ 2 + j
+      → (n ≡ (after_load j found m.0, m.1)) × ((k : Mark) → get_elem? m.0.marks j ≡ some k → k.lower ≤ found)
 
   -- What is known of a lock that was closed by the seat that has every number: there was one log
   pub record Ends (name : N) (value : V) (v : View N E) : Type 0 where

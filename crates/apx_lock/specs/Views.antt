@@ -22,6 +22,10 @@ with_mark f j [] = []
 with_mark f zero (m ∷ ms) = f m ∷ ms
 with_mark f (suc j) (m ∷ ms) = m ∷ with_mark f j ms
 
+-- a mark of a new lock, which its first seat owns
+abbrev pub first_mark : Mark
+first_mark = record { owned = true; at = 0; lower = 0; loads = 0 }
+
 -- a mark that is owned from now on, or no longer
 abbrev pub owned_mark : Bool → Mark → Mark
 owned_mark b m = record m { owned = b }
@@ -73,11 +77,33 @@ module _ {N E : Type 0} where
 
   -- the first seat: it has number 0, owns every mark, each of which is 0, and gives out the numbers
   abbrev pub first_view : N → ℕ → View N E
-  first_view name marks = record { name = Some name; number = 0; kept = []; seen = []; mine = []; marks = replicate marks (record { owned = true; at = 0; lower = 0; loads = 0 }); holds = false; refused = 0; looks = 0; given = 1 }
+  first_view name marks = record {
+    name = Some name;
+    number = 0;
+    kept = [];
+    seen = [];
+    mine = [];
+    marks = replicate marks first_mark;
+    holds = false;
+    refused = 0;
+    looks = 0;
+    given = 1;
+  }
 
   -- what is left of a seat that was joined to another
   abbrev pub spent : View N E
-  spent = record { name = None; number = 0; kept = []; seen = []; mine = []; marks = []; holds = false; refused = 0; looks = 0; given = 0 }
+  spent = record {
+    name = None;
+    number = 0;
+    kept = [];
+    seen = [];
+    mine = [];
+    marks = [];
+    holds = false;
+    refused = 0;
+    looks = 0;
+    given = 0;
+  }
 
   -- after it took the turn: it has seen the whole log
   abbrev pub after_take : List E → View N E → View N E
@@ -113,7 +139,18 @@ module _ {N E : Type 0} where
 
   -- the seat that was split from it: it has the next number, has seen as much, and owns the mark that was handed over
   abbrev pub dealt_view : Option ℕ → View N E → View N E
-  dealt_view hand v = record { name = v.name; number = v.given; kept = []; seen = v.seen; mine = []; marks = handed true hand (map new_mark v.marks); holds = false; refused = 0; looks = 0; given = 0 }
+  dealt_view hand v = record {
+    name = v.name;
+    number = v.given;
+    kept = [];
+    seen = v.seen;
+    mine = [];
+    marks = handed true hand (map new_mark v.marks);
+    holds = false;
+    refused = 0;
+    looks = 0;
+    given = 0;
+  }
 
   -- the parts of both seats, and the other seat's own entries as one more
   abbrev pub joined_parts : View N E → View N E → List (Part E)
@@ -121,4 +158,9 @@ module _ {N E : Type 0} where
 
   -- after another seat was joined to it
   abbrev pub after_join : View N E → View N E → View N E
-  after_join v other = record v { kept = joined_parts v other; seen = longer v.seen other.seen; marks = joined_marks v.marks other.marks; given = if nat_lt 0 other.given then other.given else v.given }
+  after_join v other = record v {
+    kept = joined_parts v other;
+    seen = longer v.seen other.seen;
+    marks = joined_marks v.marks other.marks;
+    given = if nat_lt 0 other.given then other.given else v.given;
+  }

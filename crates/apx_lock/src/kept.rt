@@ -26,5 +26,6 @@ pub trait Kept {
         ensures { (name : Self.Name) (log : List Self.Entry) → stands self.now name log → result ≡ length log };
 
     // A value changed by one entry stands for the same name, and for the log with that entry.
-    ghost one_more: { (value next : Self) (name : Self.Name) (log : List Self.Entry) (entry : Self.Entry) → stands value name log → grows value entry next → stands next name (log ++ entry ∷ []) };
+    ghost one_more: { (value next : Self) (name : Self.Name) (log : List Self.Entry) (entry : Self.Entry)
+        → stands value name log → grows value entry next → stands next name (log ++ entry ∷ []) };
 }

@@ -42,7 +42,8 @@ pub struct MarkLock<V: Kept> {
     pub(crate) marks: u8,
     // How many threads sleep until the turn is given back, or are about to. Each wakes one where it leaves.
     pub(crate) waiting: AtomicU64,
-    ghost counts: { (table.shared.table_id.words ≡ marks + 2) × (table.shared.table_id.slots ≡ 1) × (table.shared.key.marks ≡ marks) × (marks ≤ 64) },
+    ghost counts: { (table.shared.table_id.words ≡ marks + 2) × (table.shared.table_id.slots ≡ 1)
+        × (table.shared.key.marks ≡ marks) × (marks ≤ 64) },
 }
 
 impl<V: Kept> MarkLock<V> {
@@ -60,8 +61,11 @@ impl<V: Kept> MarkLock<V> {
         requires idle { seat.old.view.holds ≡ false }
         ensures none { IfNone result ((seat.new.table ≡ seat.old.table) × (seat.new.view ≡ after_refusal seat.old.view)) }
         ensures entered { IfSome result (λ turn. Entered V.seat V.bound seat.old.view seat.new.view) }
-        ensures turn { IfSome result (λ turn. IsTurnOf turn.lock.now.table.shared.table_id turn.lock.now.table.shared.key turn.base seat.new) }
-        ensures same { IfSome result (λ turn. (turn.lock.now.table.shared.table_id ≡ self.now.table.shared.table_id) × (turn.lock.now.table.shared.key ≡ self.now.table.shared.key)) }
+        ensures turn { IfSome result
+            (λ turn. IsTurnOf turn.lock.now.table.shared.table_id turn.lock.now.table.shared.key turn.base seat.new) }
+        ensures same { IfSome result
+            (λ turn. (turn.lock.now.table.shared.table_id ≡ self.now.table.shared.table_id)
+            × (turn.lock.now.table.shared.key ≡ self.now.table.shared.key)) }
         ensures value { IfSome result (λ turn. V.stands turn.value self.now.table.shared.key.name seat.new.view.seen) }
     {
         let desk = &self.table.shared;
@@ -83,7 +87,8 @@ impl<V: Kept> MarkLock<V> {
         requires idle { seat.old.view.holds ≡ false }
         ensures entered { Entered V.seat V.bound seat.old.view seat.new.view }
         ensures turn { IsTurnOf result.lock.now.table.shared.table_id result.lock.now.table.shared.key result.base seat.new }
-        ensures same { (result.lock.now.table.shared.table_id ≡ self.now.table.shared.table_id) × (result.lock.now.table.shared.key ≡ self.now.table.shared.key) }
+        ensures same { (result.lock.now.table.shared.table_id ≡ self.now.table.shared.table_id)
+            × (result.lock.now.table.shared.key ≡ self.now.table.shared.key) }
         ensures value { V.stands result.value self.now.table.shared.key.name seat.new.view.seen }
     {
         for _ in rt.forever() {

@@ -25,7 +25,8 @@ impl<V, N, E> Model for SeatOver<V, N, E> {
 
     ghost view = { λ s. record { table = s.place.table_id; view = s.place.me.0 } };
 
-    ghost invariant = { λ s. (s.place.me.0.number ≡ s.number) × (s.place.me.0.given ≡ s.given) × (s.place.me.1 ≡ carried s.place.me.0.holds) };
+    ghost invariant = { λ s. (s.place.me.0.number ≡ s.number) × (s.place.me.0.given ≡ s.given)
+        × (s.place.me.1 ≡ carried s.place.me.0.holds) };
 }
 
 impl<V, N, E> SeatOver<V, N, E> {

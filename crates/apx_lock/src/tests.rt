@@ -89,12 +89,16 @@ fn write_by_two<R: Threads + Wait + Sync>(
     join(
         rt,
         || -> Seat<Notes>
-            requires { IsSync R.row × IsSeatOf lock.now.table.shared.table_id lock.now.table.shared.key first × (first.view.holds ≡ false) }
-            ensures { IsSeatOf lock.entry.now.table.shared.table_id lock.entry.now.table.shared.key result × IsSameSeat first.view result.view × (result.view.holds ≡ false) }
+            requires { IsSync R.row × IsSeatOf lock.now.table.shared.table_id lock.now.table.shared.key first
+                × (first.view.holds ≡ false) }
+            ensures { IsSeatOf lock.entry.now.table.shared.table_id lock.entry.now.table.shared.key result
+                × IsSameSeat first.view result.view × (result.view.holds ≡ false) }
         { write_many(rt, lock, first, 100) },
         || -> Seat<Notes>
-            requires { IsSync R.row × IsSeatOf lock.now.table.shared.table_id lock.now.table.shared.key second × (second.view.holds ≡ false) }
-            ensures { IsSeatOf lock.entry.now.table.shared.table_id lock.entry.now.table.shared.key result × IsSameSeat second.view result.view × (result.view.holds ≡ false) }
+            requires { IsSync R.row × IsSeatOf lock.now.table.shared.table_id lock.now.table.shared.key second
+                × (second.view.holds ≡ false) }
+            ensures { IsSeatOf lock.entry.now.table.shared.table_id lock.entry.now.table.shared.key result
+                × IsSameSeat second.view result.view × (result.view.holds ≡ false) }
         { write_many(rt, lock, second, 100) },
     )
 }
