@@ -1,7 +1,7 @@
 -- Where a rest of a text begins.
 use Rattle.std.proofs.Common.{◌≡◌, ℕ, ◌+◌, ◌-◌, List, length, drop, ap, ◌∙◌, arith}
 use Rattle.std.proofs.lemmas.List.{drop-drop}
-use Rattle.apx_input.specs.Texts.{IsRest}
+use Rattle.apx_lines.specs.Rest.{IsRest}
 
 -- the end of an end is an end
 pub end_of_end : (text rest behind : List ℕ) → IsRest text rest → IsRest rest behind → IsRest text behind

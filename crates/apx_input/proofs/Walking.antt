@@ -9,7 +9,7 @@ use Rattle.apx_pass.proofs.Grouping.{groups_are}
 use Rattle.apx_pass.proofs.Pieces.{lines_first, lines_empty}
 use Rattle.apx_pass.proofs.Refusing.{refused_many, refused_here, no_lines_refused}
 use Rattle.apx_input.specs.Starts.{IsStart, AreStarts}
-use Rattle.apx_input.specs.Texts.{IsRest}
+use Rattle.apx_lines.specs.Rest.{IsRest}
 
 -- a text has a line
 pub some_lines : (text : List ℕ) → 0 < length text → 0 < length (lines text)

@@ -1,12 +1,7 @@
 -- Parts of a text.
-use Rattle.std.specs.Prelude.{◌≡◌, ℕ, ℤ, ◌-◌, ◌≤◌, List, length, drop}
+use Rattle.std.specs.Prelude.{ℕ, ℤ, List}
 use Rattle.std.specs.Borrow.{Bor}
 use Rattle.apx_tuple.specs.declared.tuple.Tuple.{Tuple}
-
--- rest is what some place of the text begins
-pub record IsRest (text rest : List ℕ) : Type 0 where
-  pub shorter : length rest ≤ length text
-  pub same : rest ≡ drop (length text - length rest) text
 
 -- two lent parts
 abbrev pub parts_of : Bor (List ℕ) × Bor (List ℕ) → List ℕ × List ℕ

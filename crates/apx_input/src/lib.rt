@@ -8,7 +8,6 @@ pub use reading::windows;
 pub use refusal::LineRefusal;
 pub use window::Windows;
 
-mod line;
 mod pair;
 mod reading;
 mod refusal;

@@ -3,13 +3,13 @@ ghost use Rattle.std.specs.Prelude.{◌≡◌, ◌≢◌, ◌⊎◌, ℕ, ◌+�
 ghost use Rattle.apx_pass.specs.Groups.{Refused, input_of, groups, first_refused, first_refused_from, refused_at};
 ghost use Rattle.apx_pass.specs.Lines.{lines};
 ghost use Rattle.apx_input.specs.Refusals.{Reports, refusal_of};
-ghost use Rattle.apx_input.specs.Texts.{IsRest};
+ghost use Rattle.apx_lines.specs.Rest.{IsRest};
 ghost use Rattle.apx_input.specs.Starts.{AreStarts};
 
-use crate::line::next_line;
 use crate::refusal::LineRefusal;
 use crate::tuple::has_tuple;
 use crate::window::Windows;
+use apx_lines::next_line;
 use apx_tuple::InputKind;
 use std::alloc::Global;
 

@@ -6,8 +6,8 @@ ghost use Rattle.apx_pass.specs.Groups.{groups, window_bag, IsInput};
 ghost use Rattle.apx_pass.specs.Lines.{lines};
 ghost use Rattle.apx_pass.specs.Pairs.{tuple_of};
 
-use crate::line::next_line;
 use crate::tuple::tuple_of;
+use apx_lines::next_line;
 use apx_tuple::{Bag, InputKind, Short, Tuple};
 use std::alloc::{AllocError, Global};
 use std::marker::Model;

@@ -13,7 +13,8 @@ use Rattle.apx_tuple.specs.declared.tuple.Tuple.{Tuple}
 use Rattle.apx_tuple.specs.Size.{size_by}
 use Rattle.apx_tuple.specs.Tuple.{tuple_key, bag_of}
 use Rattle.apx_pass.specs.Groups.{Input, group, groups, window_bag}
-use Rattle.apx_pass.specs.Pairs.{tuple_of, pair_of, value_of, at_last_tab}
+use Rattle.apx_decimal.specs.Decimal.{integer_of}
+use Rattle.apx_pass.specs.Pairs.{tuple_of, pair_of, at_last_tab}
 
 quotient : (k n len : ℕ) → 1 ≤ n → len ≤ k * n → (0 < k → (k - 1) * n < len) → k ≡ (len + (n - 1)) / n
 quotient zero n len some full begun =
@@ -115,9 +116,9 @@ key_shorter Pairs line tuple e = by (at_last_tab line) refl e
         let lengths : length key ≡ length tuple.key = ap (λ (t : Tuple). length t.key) is in
         omega (arith, lengths, cut_shorter line key text h)
 
-    by : (o : Option (List ℕ × List ℕ)) → at_last_tab line ≡ o → option_and_then (λ parts. option_map (pair parts.0) (value_of parts.1)) o ≡ Some tuple → length tuple.key ≤ length line
+    by : (o : Option (List ℕ × List ℕ)) → at_last_tab line ≡ o → option_and_then (λ parts. option_map (pair parts.0) (integer_of parts.1)) o ≡ Some tuple → length tuple.key ≤ length line
     by None h same = cc
-    by (Some parts) h same = with_value parts.0 parts.1 h (value_of parts.1) same
+    by (Some parts) h same = with_value parts.0 parts.1 h (integer_of parts.1) same
 
 -- so tuples of n short lines are not large
 pub size_of_short : (kind : InputKind) (n : ℕ) (lines : List (List ℕ)) → All (λ line. length line ≤ 1024) lines → size_by tuple_key (filter_map (tuple_of kind) (take n lines)) ≤ 1034 * n

@@ -3,8 +3,8 @@ use Rattle.std.proofs.Common.{◌≡◌, ◌≢◌, ℕ, ℤ, ◌+◌, ◌-◌, 
 use Rattle.std.proofs.lemmas.List.{drop_all, drop_more}
 use borrow.Author.Tests.{eqb-true}
 use Rattle.std.proofs.lemmas.Bool.{eq-eqb}
-use Rattle.apx_pass.specs.Pairs.{value_of, at_last_tab, pair_of}
-pub use Rattle.apx_decimal.proofs.Numbers.{digit_is, value_after_more, not_all_digits, no_more_digits, no_number_empty, no_number_digits, no_number_large, is_number, value_none, value_minus_none, value_minus, value_plain_none, value_plain}
+use Rattle.apx_pass.specs.Pairs.{at_last_tab, pair_of}
+use Rattle.apx_decimal.specs.Decimal.{integer_of}
 
 -- there is no tab behind the end
 pub no_tab_at_end : (line : List ℕ) (at : ℕ) → length line ≤ at → at_last_tab (drop at line) ≡ None
@@ -53,10 +53,10 @@ pub pair_none : (line : List ℕ) → None ≡ at_last_tab line → None ≡ pai
 unfolding pair_of
 pair_none line e = rw (sym e) refl
 
-pub pair_value_none : (line key text : List ℕ) → Some (key, text) ≡ at_last_tab line → None ≡ value_of text → None ≡ pair_of line
+pub pair_value_none : (line key text : List ℕ) → Some (key, text) ≡ at_last_tab line → None ≡ integer_of text → None ≡ pair_of line
 unfolding pair_of
 pair_value_none line key text e v = rw (sym e) (rw (sym v) refl)
 
-pub pair_is : (line key text : List ℕ) (value : ℤ) → Some (key, text) ≡ at_last_tab line → Some value ≡ value_of text → Some (record { key = key; value = value }) ≡ pair_of line
+pub pair_is : (line key text : List ℕ) (value : ℤ) → Some (key, text) ≡ at_last_tab line → Some value ≡ integer_of text → Some (record { key = key; value = value }) ≡ pair_of line
 unfolding pair_of
 pair_is line key text value e v = rw (sym e) (rw (sym v) refl)

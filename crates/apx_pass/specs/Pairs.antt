@@ -3,7 +3,7 @@
 --     tuple_of kind line     the tuple that an input operator of the kind makes of the line, if it can
 use Rattle.std.specs.Prelude.{ℕ, ◌==◌, cond, List, [], ◌∷◌, pos, Option, Some, None}
 use Rattle.std.specs.Option.{option_map, option_or, option_and_then}
-pub use Rattle.apx_decimal.specs.Decimal.{number_up_to, integer_of as value_of}
+use Rattle.apx_decimal.specs.Decimal.{integer_of}
 use Rattle.apx_tuple.specs.declared.kind.InputKind.{InputKind}
 use Rattle.apx_tuple.specs.declared.kind.InputKind.TheVariants.{Lines, Pairs}
 use Rattle.apx_tuple.specs.declared.tuple.Tuple.{Tuple}
@@ -19,7 +19,7 @@ at_last_tab (byte ∷ bytes) =
 -- the key stands before the last tab, and the value after it
 unfoldable pub pair_of : List ℕ → Option Tuple
 pair_of line =
-    option_and_then (λ parts. option_map (λ value. record { key = parts.0; value = value }) (value_of parts.1)) (at_last_tab line)
+    option_and_then (λ parts. option_map (λ value. record { key = parts.0; value = value }) (integer_of parts.1)) (at_last_tab line)
 
 -- of `lines` the whole line is the key, and the value is 1
 unfoldable pub tuple_of : InputKind → List ℕ → Option Tuple

@@ -12,7 +12,7 @@ use Rattle.std.specs.Prelude.{ℕ, ◌+◌, ◌==◌, ◌≤◌, nat_le, nat_lt,
 use Rattle.std.specs.Option.{option_map, option_and_then}
 use Rattle.std.specs.Str.{bytes_eq, is_utf8}
 use Rattle.apx_pass.specs.Lines as texts
-use Rattle.apx_pass.specs.Pairs.{number_up_to}
+use Rattle.apx_decimal.specs.Decimal.{number_up_to}
 
 -- ---- commands as plain data
 

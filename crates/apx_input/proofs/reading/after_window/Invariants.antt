@@ -1,7 +1,7 @@
 use Rattle.std.proofs.Common.{◌≡◌, ◌+◌, drop}
 use Rattle.apx_pass.specs.Groups.{first_refused_from}
 use Rattle.apx_pass.specs.Lines.{lines}
-use Rattle.apx_input.specs.Texts.{IsRest}
+use Rattle.apx_lines.specs.Rest.{IsRest}
 use Rattle.apx_input.proofs.reading.after_window.Given as goal
 
 abbrev pub invariant-loop-done : goal.invariant-loop-done

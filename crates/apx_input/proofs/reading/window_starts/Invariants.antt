@@ -2,7 +2,7 @@ use Rattle.std.proofs.Common.{◌≡◌, ◌+◌, ◌*◌, ◌≤◌, drop, leng
 use Rattle.apx_pass.specs.Groups.{first_refused_from}
 use Rattle.apx_pass.specs.Lines.{lines}
 use Rattle.apx_input.specs.Starts.{AreStarts}
-use Rattle.apx_input.specs.Texts.{IsRest}
+use Rattle.apx_lines.specs.Rest.{IsRest}
 use Rattle.apx_input.proofs.reading.window_starts.Given as goal
 
 abbrev pub invariant-loop-rest : goal.invariant-loop-rest
