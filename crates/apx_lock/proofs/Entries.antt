@@ -1,9 +1,10 @@
 -- The entries of a number, in a log that is one entry longer.
-use Rattle.std.proofs.Common.{◌≡◌, ℕ, ◌≢◌, ◌⊎◌, ◌==◌, Bool, cond, List, [], ◌∷◌, ◌++◌, sym, refl, ap, ◌∙◌, inl, inr, append-nil, eq-eqb, ne_eqb}
+use Rattle.std.proofs.Common.{◌≡◌, ℕ, ◌≢◌, ◌⊎◌, ◌==◌, Bool, cond, List, [], ◌∷◌, ◌++◌, sym, refl, ap, ◌∙◌, inl, inr, append-nil, eq-eqb, ne_eqb, ⊎_elim}
 use Rattle.std.proofs.lemmas.List.Elements.{filter-append}
 use Rattle.apx_lock.specs.declared.view.Part.{Part}
 use Rattle.apx_lock.specs.Logs.{Every, entries_of}
-use Rattle.apx_lock.specs.Views.{IsPart}
+use Rattle.apx_lock.specs.declared.view.View.{View}
+use Rattle.apx_lock.specs.Views.{IsPart, HasNumber, after_join}
 
 module _ {E : Type 0} (seat : E → ℕ) where
   pub one_own : (number : ℕ) (log : List E) (e : E) → seat e ≡ number → entries_of seat number (log ++ e ∷ []) ≡ entries_of seat number log ++ e ∷ []
@@ -38,3 +39,10 @@ module _ {E : Type 0} where
   pub part_right : (n : ℕ) (ps qs : List (Part E)) → IsPart n qs → IsPart n (ps ++ qs)
   part_right n [] qs h = h
   part_right n (p ∷ ps) qs h = inr (part_right n ps qs h)
+
+-- a joined seat has each number that either seat had
+pub has_either : {N E : Type 0} (v other : View N E) (n : ℕ) → HasNumber v n ⊎ HasNumber other n → HasNumber (after_join v other) n
+has_either v other n = ⊎_elim
+    (⊎_elim (λ (e : v.number ≡ n). inl e) (λ (p : IsPart n v.kept). inr (part_left n v.kept (record { number = other.number; entries = other.mine } ∷ other.kept) p)))
+    (⊎_elim (λ (e : other.number ≡ n). inr (part_right n v.kept (record { number = other.number; entries = other.mine } ∷ other.kept) (inl e)))
+    (λ (p : IsPart n other.kept). inr (part_right n v.kept (record { number = other.number; entries = other.mine } ∷ other.kept) (inr p))))
