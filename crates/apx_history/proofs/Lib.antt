@@ -15,3 +15,4 @@ pub mod Once
 pub mod Bounded
 pub mod Examples
 pub mod Runs
+pub mod Instances

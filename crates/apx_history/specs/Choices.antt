@@ -31,24 +31,31 @@ purge_to plan m o i = readers_rc plan m o (slot m o i).at
 abbrev pub starts : State → List Event
 starts m = list_slots m (λ o i. Start o i ((slot m o i).at + 1))
 
+-- the Write that could come next
 abbrev pub writes : State → List Event
 writes m = Write (m.stored + 1) ∷ []
 
+-- each Finish that could come next
 abbrev pub finishes : State → List Event
 finishes m = list_slots m (λ o i. Finish o i (unwrap_or (open_window (slot m o i).opened) 0))
 
+-- each Save that could come next
 abbrev pub saves : State → List Event
 saves m = list_slots m (λ o i. Save o i (slot m o i).at)
 
+-- each Advance that could come next
 abbrev pub advances : Plan → State → List Event
 advances plan m = list_slots m (λ o i. Advance o i (advance_to plan m o i))
 
+-- the Commit that could come next
 abbrev pub commits : Plan → State → List Event
 commits plan m = Commit (least_rc plan m) ∷ []
 
+-- the greatest Purge of each partition
 abbrev pub purges : Plan → State → List Event
 purges plan m = list_slots m (λ o i. Purge o i (purge_to plan m o i))
 
+-- an event of each line of the script
 abbrev pub lines_met : State → (ℕ → Event) → List Event
 lines_met m f = list_below (length m.left) f
 

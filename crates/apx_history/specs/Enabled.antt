@@ -34,7 +34,8 @@ at_act plan m o w (Splits count) = false
 -- the kill of line l is due
 unfoldable pub due : Plan → State → ℕ → Bool
 due plan m l =
-    is_left m l && nat_lt (oper m (line plan l).op).boundary (line plan l).window && nat_le (line plan l).window (limit plan m (line plan l).op)
+    is_left m l && nat_lt (oper m (line plan l).op).boundary (line plan l).window
+    && nat_le (line plan l).window (limit plan m (line plan l).op)
     && at_act plan m (line plan l).op (line plan l).window (line plan l).act
 
 -- Partition i of operator o is in the tree of the partition that line l names: it is that partition, or its
@@ -88,6 +89,7 @@ unfoldable pub all_met : List Bool → Bool
 all_met [] = true
 all_met (b ∷ bs) = not b && all_met bs
 
+-- the conditions of Start
 unfoldable pub can_start : Plan → State → ℕ → ℕ → ℕ → Bool
 can_start plan m o i w =
     is_part m o i && w == (slot m o i).at + 1 && is_none (slot m o i).opened && nat_le w plan.windows
@@ -95,38 +97,48 @@ can_start plan m o i w =
     && (not (is_checkpoint plan (slot m o i).at) || has (slot m o i).saved (slot m o i).at)
     && sources_have plan m o w && calm_above plan m o i
 
+-- the conditions of Write
 unfoldable pub can_write : Plan → State → ℕ → Bool
 can_write plan m w = is_part m plan.sink 0 && opens w (slot m plan.sink 0).opened && w == m.stored + 1 && calm plan m plan.sink 0
 
+-- the conditions of Finish
 unfoldable pub can_finish : Plan → State → ℕ → ℕ → ℕ → Bool
 can_finish plan m o i w = is_part m o i && opens w (slot m o i).opened && (not (o == plan.sink) || nat_le w m.stored) && calm plan m o i
 
+-- the conditions of Save
 unfoldable pub can_save : Plan → State → ℕ → ℕ → ℕ → Bool
 can_save plan m o i w =
     is_part m o i && w == (slot m o i).at && nat_lt 0 w && is_checkpoint plan w && not (has (slot m o i).saved w)
     && is_none (slot m o i).opened && calm plan m o i
 
+-- the conditions of Advance
 unfoldable pub can_advance : Plan → State → ℕ → ℕ → ℕ → Bool
 can_advance plan m o i w = is_part m o i && w == advance_to plan m o i && nat_lt (slot m o i).rc w && calm plan m o i
 
+-- the conditions of Commit
 unfoldable pub can_commit : Plan → State → ℕ → Bool
 can_commit plan m w = w == least_rc plan m && nat_lt m.committed w
 
+-- the conditions of Purge
 unfoldable pub can_purge : Plan → State → ℕ → ℕ → ℕ → Bool
 can_purge plan m o i w =
     is_part m o i && not (o == plan.sink) && nat_lt (slot m o i).floor w && nat_le w (slot m o i).at && readers_reach plan m o w
 
+-- the conditions of Kill
 unfoldable pub can_kill : Plan → State → ℕ → Bool
 can_kill plan m l = due plan m l && tree_closed plan m l
 
+-- the conditions of Repartition
 unfoldable pub can_repartition : Plan → State → ℕ → Bool
 can_repartition plan m l =
     is_left m l && splits (line plan l).act && (line plan l).window == limit plan m (line plan l).op
     && rests_at m (line plan l).op (line plan l).window
 
+-- the conditions of End
 unfoldable pub can_end : Plan → State → Bool
 can_end plan m =
-    all_slots m (λ o i. is_none (slot m o i).opened && (slot m o i).at == plan.windows && (slot m o i).rc == last_checkpoint plan plan.windows)
+    all_slots m (λ o i. is_none (slot m o i).opened && (slot m o i).at == plan.windows
+    && (slot m o i).rc == last_checkpoint plan plan.windows)
     && m.committed == last_checkpoint plan plan.windows && all_met m.left
 
 -- the statuses that a run may stop with

@@ -13,8 +13,11 @@ use Rattle.apx_history.specs.Kept.{IsPlan, IsStart, Kept, IsNeeded}
 
 -- a history: entries that may follow one another from a start of the plan
 pub record IsHistory (plan : Plan) (s c : ℕ) (es : List Entry) : Type 0 where
+  -- the plan is one of a job
   pub is : IsPlan plan
+  -- a run may begin there
   pub start : IsStart plan s c
+  -- each entry may come where it stands
   pub legal : is_legal plan (beginning plan s c) es ≡ true
 
 -- the sum of n numbers
@@ -34,8 +37,10 @@ bound plan = (length plan.lines + 1) * (most_parts plan * (5 * plan.windows)) + 
 abbrev pub StartsKeep : Type 0
 StartsKeep = (plan : Plan) (s c : ℕ) → IsPlan plan → IsStart plan s c → Kept plan (beginning plan s c)
 
+-- Each event keeps it from any state that has it.
 abbrev pub EventsKeep : Type 0
-EventsKeep = (plan : Plan) (m : State) → IsPlan plan → Kept plan m → (worker : ℕ) (e : Event) → can plan m e ≡ true → Kept plan (next plan m worker e)
+EventsKeep = (plan : Plan) (m : State) → IsPlan plan → Kept plan m →
+    (worker : ℕ) (e : Event) → can plan m e ≡ true → Kept plan (next plan m worker e)
 
 -- So it holds after every history.
 abbrev pub HistoriesKeep : Type 0
@@ -44,7 +49,8 @@ HistoriesKeep = (plan : Plan) (s c : ℕ) (es : List Entry) → IsHistory plan s
 -- The choices are the events that may come next, but for faults and lesser purges.
 abbrev pub ChoicesAreExact : Type 0
 ChoicesAreExact =
-    (plan : Plan) (m : State) (e : Event) → (Among e (choices plan m) → (can plan m e ≡ true) × IsListed plan m e) × (can plan m e ≡ true → IsListed plan m e → Among e (choices plan m))
+    (plan : Plan) (m : State) (e : Event) → (Among e (choices plan m) → (can plan m e ≡ true) × IsListed plan m e)
+    × (can plan m e ≡ true → IsListed plan m e → Among e (choices plan m))
 
 -- While a run goes on there is a choice.
 abbrev pub AlwaysGoesOn : Type 0
@@ -54,15 +60,20 @@ AlwaysGoesOn = (plan : Plan) (m : State) → IsPlan plan → Kept plan m → run
 abbrev pub IsBounded : Type 0
 IsBounded = (plan : Plan) (s c : ℕ) (es : List Entry) → IsHistory plan s c es → length es ≤ bound plan
 
--- Where a history has ended, every window is stored, each line of the script was met exactly once, and each partition is
--- at the last window with its recovery checkpoint at the last at which checkpoints are made.
+-- What is there at the end: every window is stored, the last checkpoint is committed, and each line of the script was met
+-- exactly once.
 pub record IsAtEnd (plan : Plan) (m : State) (es : List Entry) : Type 0 where
+  -- every window is stored
   pub stored : m.stored ≡ plan.windows
+  -- the last checkpoint is committed
   pub committed : m.committed ≡ last_checkpoint plan plan.windows
+  -- each line was met once
   pub once : (l : ℕ) → l < length plan.lines → times_met l es ≡ 1
 
+-- So it is with each history that has ended.
 abbrev pub EndsWell : Type 0
-EndsWell = (plan : Plan) (s c : ℕ) (es : List Entry) → IsHistory plan s c es → (after plan (beginning plan s c) es).ended ≡ true → IsAtEnd plan (after plan (beginning plan s c) es) es
+EndsWell = (plan : Plan) (s c : ℕ) (es : List Entry) → IsHistory plan s c es → (after plan (beginning plan s c) es).ended ≡ true →
+    IsAtEnd plan (after plan (beginning plan s c) es) es
 
 -- No block that a recovery window needs is purged: a window that may still be read is above the floor.
 abbrev pub KeepsWhatIsNeeded : Type 0
@@ -81,8 +92,11 @@ closes_one plan worker o i (e ∷ es) = cond (e.worker == worker && closes plan 
 
 -- partition i of operator o has window w open, which the worker began, in the epoch with boundary b
 pub record IsOpen (m : State) (o i w worker b : ℕ) : Type 0 where
+  -- the partition is there
   pub part : IsPart m o i
+  -- it has the window open, begun by the worker
   pub opened : (slot m o i).opened ≡ Some (w, worker)
+  -- in this epoch
   pub boundary : (oper m o).boundary ≡ b
 
 -- What a worker opened stays open for it until it finishes or kills the partition itself.

@@ -11,16 +11,24 @@ use Rattle.std.specs.Prelude.{ℕ, ◌*◌, ◌/◌, ◌%◌, max, Bool, true, f
 
 -- an operator: those that it reads, all that are downstream of it, and its number of partitions at first
 pub record Operator : Type 0 where
+  -- the operators that it reads
   pub sources : List ℕ
+  -- all operators that are downstream of it
   pub under : List ℕ
+  -- its number of partitions before any repartition
   pub first : ℕ
 
 -- the plan of a job: `every` is the checkpoint interval
 pub record Plan : Type 0 where
+  -- how many windows the job has
   pub windows : ℕ
+  -- a checkpoint is made after each so many windows
   pub every : ℕ
+  -- the number of the sink
   pub sink : ℕ
+  -- the operators, in the order of the application
   pub operators : List Operator
+  -- the commands of the script, in order
   pub lines : List Line
 
 -- x stands in xs
@@ -36,9 +44,11 @@ no_operator = record { sources = []; under = []; first = 0 }
 abbrev pub no_line : Line
 no_line = record { op = 0; window = 0; act = Splits 0 }
 
+-- operator o, one that reads nothing where it isn't there
 abbrev pub operator : Plan → ℕ → Operator
 operator plan o = get_or plan.operators o no_operator
 
+-- line l of the script, one that does nothing where it isn't there
 abbrev pub line : Plan → ℕ → Line
 line plan l = get_or plan.lines l no_line
 
@@ -58,6 +68,7 @@ last_checkpoint plan n = plan.every * (n / plan.every)
 abbrev pub is_checkpoint : Plan → ℕ → Bool
 is_checkpoint plan w = w % plan.every == 0
 
+-- the act repartitions
 abbrev pub splits : Act → Bool
 splits (Splits count) = true
 splits (Fails point part) = false
@@ -76,6 +87,7 @@ unfoldable pub boundary_in : List Line → ℕ → ℕ → ℕ
 boundary_in [] o w = 0
 boundary_in (l ∷ ls) o w = cond (splits_op o l && nat_lt l.window w) (max l.window (boundary_in ls o w)) (boundary_in ls o w)
 
+-- the boundary of the epoch of operator o that holds window w, by the plan
 abbrev pub boundary_at : Plan → ℕ → ℕ → ℕ
 boundary_at plan o w = boundary_in plan.lines o w
 
@@ -97,6 +109,7 @@ most_in (l ∷ ls) o n = cond (splits_op o l) (max (count_or n l.act) (most_in l
 abbrev pub most : Plan → ℕ → ℕ
 most plan o = most_in plan.lines o (operator plan o).first
 
+-- the act kills partition i
 abbrev pub fails_part : ℕ → Act → Bool
 fails_part i (Fails point part) = part == i
 fails_part i (Splits count) = false

@@ -4,25 +4,38 @@ use Rattle.std.specs.Prelude.{◌≡◌, ℕ, zero, suc, ◌+◌, ◌<◌, min, 
 -- A partition: its last finished window; the window that it has open, with the worker who began it; the windows
 -- whose states are saved; its recovery checkpoint; and the last window whose blocks were dropped.
 pub record Slot : Type 0 where
+  -- its last finished window
   pub at : ℕ
+  -- the window that is open and the worker who began it, if any
   pub opened : Option (ℕ × ℕ)
+  -- the windows whose states are saved, in ascending order
   pub saved : List ℕ
+  -- its recovery checkpoint: the window to which a kill takes it back
   pub rc : ℕ
+  -- the last window whose blocks were dropped
   pub floor : ℕ
 
 -- an operator: the boundary of its epoch, and its partitions
 pub record Oper : Type 0 where
+  -- the window behind which its epoch began
   pub boundary : ℕ
+  -- its partitions
   pub parts : List Slot
 
 -- The machine: the operators; what every partition has behind it for good; the last stored window; which lines of
 -- the script are left; whether the run is over; the status that it stopped with.
 pub record State : Type 0 where
+  -- the operators
   pub ops : List Oper
+  -- the window that no partition may go back before
   pub committed : ℕ
+  -- the last window in the store
   pub stored : ℕ
+  -- for each line of the script whether it is left
   pub left : List Bool
+  -- the run is over
   pub ended : Bool
+  -- the status that the run stopped with, if any
   pub fault : Option ℕ
 
 -- a partition that has just begun behind window w
@@ -33,6 +46,7 @@ fresh w = record { at = w; opened = None; saved = w ∷ []; rc = w; floor = w }
 abbrev pub no_oper : Oper
 no_oper = record { boundary = 0; parts = [] }
 
+-- operator o, one without partitions where it isn't there
 abbrev pub oper : State → ℕ → Oper
 oper m o = get_or m.ops o no_oper
 
@@ -44,6 +58,7 @@ parts m o = length (oper m o).parts
 abbrev pub slot : State → ℕ → ℕ → Slot
 slot m o i = get_or (oper m o).parts i (fresh 0)
 
+-- partition i of operator o is there
 abbrev pub IsPart : State → ℕ → ℕ → Type 0
 IsPart m o i = (o < length m.ops) × (i < parts m o)
 
