@@ -2,9 +2,11 @@
 //!
 //! Options stand in pairs of a name and a value, in any order, each at most once.
 
-ghost use Rattle.std.specs.Prelude.{◌≡◌, ◌≤◌, map, string_bytes, is_some, IfSome, IfOk};
+ghost use Rattle.std.specs.Prelude.{◌≡◌, map, string_bytes, is_some, IfSome, IfOk};
 ghost use Rattle.std.specs.List.{list_any};
 ghost use Rattle.std.specs.Option.{option_map};
+ghost use Rattle.apx_script.specs.Settings.{IsSettings};
+ghost use Rattle.apx_cmd.specs.Bounds.{IsWithin};
 ghost use Rattle.apx_cmd.specs.Options.{name_of, low_of, high_of, usual_of, number_within, takes_number, takes, given, are_options, given_number, given_script, settings_of};
 
 use apx_decimal::natural_up_to;
@@ -70,7 +72,8 @@ impl Number {
 
     /// The value where the option isn't given.
     fn usual(self) -> u64
-        ensures { result ≡ usual_of self }
+        ensures value { result ≡ usual_of self }
+        ensures within { IsWithin (low_of self) (high_of self) result }
     {
         match self {
             Number::Base => 1_000_000_000,
@@ -87,7 +90,7 @@ impl Number {
 #[tactic(auto, unfolding(crate::specs::Options::number_within))]
 pub(crate) fn number_within(low: u64, high: u64, text: &str) -> Option<u64>
     ensures value { result ≡ number_within low high text.now }
-    ensures within { IfSome result (λ n. n ≤ high) }
+    ensures within { IfSome result (IsWithin low high) }
 {
     if text.len() > MOST_DIGITS {
         return None;
@@ -154,7 +157,7 @@ pub(crate) fn are_options(script: bool, numbers: &[Number], words: &[String]) ->
 /// The number that an option is given.
 pub(crate) fn given_number(number: Number, words: &[String]) -> u64
     ensures value { result ≡ given_number number (map string_bytes words.now) }
-    ensures within { result ≤ high_of number }
+    ensures within { IsWithin (low_of number) (high_of number) result }
 {
     match given(number.name(), words) {
         Some(text) => { number_within(number.low(), number.high(), text).unwrap_or(number.usual()) }
@@ -174,7 +177,8 @@ pub(crate) fn given_script(alloc: Global, words: &[String]) -> Result<Option<Nam
 
 /// The settings that the options give.
 pub(crate) fn settings(words: &[String]) -> Settings
-    ensures { result ≡ settings_of (map string_bytes words.now) }
+    ensures value { result ≡ settings_of (map string_bytes words.now) }
+    ensures bounded { IsSettings result }
 {
     Settings {
         base: given_number(Number::Base, words) as u32,

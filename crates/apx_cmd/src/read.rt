@@ -1,9 +1,11 @@
 //! Reading the words.
 
-ghost use Rattle.std.specs.Prelude.{◌≡◌, map, string_bytes, IfErr};
+ghost use Rattle.std.specs.Prelude.{◌≡◌, map, string_bytes, IfSome, IfOk, IfErr};
 ghost use Rattle.std.specs.Option.{option_map};
 ghost use Rattle.apx_cmd.specs.declared.refusal.CommandRefusal.TheVariants.{Usage};
+ghost use Rattle.apx_script.specs.Settings.{IsSettings};
 ghost use Rattle.apx_cmd.specs.Answers.{Answers};
+ghost use Rattle.apx_cmd.specs.Bounds.{IsWithin, IsBounded};
 ghost use Rattle.apx_cmd.specs.Commands.{file_of, file_and_options, check_of, plan_of, mean_of, sim_of, trace_of, run_of, group_of, audit_of, gen_of, called, command_of, resume_told, resume_of, record_told, record_of};
 
 use crate::commands::{Command, ResumeWords};
@@ -69,7 +71,8 @@ fn file_and_options<'a>(
 
 #[tactic(auto, unfolding(crate::specs::Commands::check_of))]
 fn check(alloc: Global, words: &[String]) -> Result<Command, CommandRefusal>
-    ensures { Answers (check_of (map string_bytes words.now)) result }
+    ensures answers { Answers (check_of (map string_bytes words.now)) result }
+    ensures bounded { IfOk result IsBounded }
 {
     match file_and_options(false, &[], words) {
         Some((app, _)) => Ok(Command::Check {
@@ -81,7 +84,8 @@ fn check(alloc: Global, words: &[String]) -> Result<Command, CommandRefusal>
 
 #[tactic(auto, unfolding(crate::specs::Commands::plan_of))]
 fn plan(alloc: Global, words: &[String]) -> Result<Command, CommandRefusal>
-    ensures { Answers (plan_of (map string_bytes words.now)) result }
+    ensures answers { Answers (plan_of (map string_bytes words.now)) result }
+    ensures bounded { IfOk result IsBounded }
 {
     match file_and_options(false, &[], words) {
         Some((app, _)) => Ok(Command::Plan {
@@ -93,7 +97,8 @@ fn plan(alloc: Global, words: &[String]) -> Result<Command, CommandRefusal>
 
 #[tactic(auto, unfolding(crate::specs::Commands::mean_of))]
 fn mean(alloc: Global, words: &[String]) -> Result<Command, CommandRefusal>
-    ensures { Answers (mean_of (map string_bytes words.now)) result }
+    ensures answers { Answers (mean_of (map string_bytes words.now)) result }
+    ensures bounded { IfOk result IsBounded }
 {
     match file_and_options(false, &[Number::Base], words) {
         Some((app, options)) => Ok(Command::Mean {
@@ -106,7 +111,8 @@ fn mean(alloc: Global, words: &[String]) -> Result<Command, CommandRefusal>
 
 #[tactic(auto, unfolding(crate::specs::Commands::sim_of))]
 fn sim(alloc: Global, words: &[String]) -> Result<Command, CommandRefusal>
-    ensures { Answers (sim_of (map string_bytes words.now)) result }
+    ensures answers { Answers (sim_of (map string_bytes words.now)) result }
+    ensures bounded { IfOk result IsBounded }
 {
     match file_and_options(true, &SIM_NUMBERS, words) {
         Some((app, options)) => Ok(Command::Sim {
@@ -121,7 +127,8 @@ fn sim(alloc: Global, words: &[String]) -> Result<Command, CommandRefusal>
 
 #[tactic(auto, unfolding(crate::specs::Commands::trace_of))]
 fn trace(alloc: Global, words: &[String]) -> Result<Command, CommandRefusal>
-    ensures { Answers (trace_of (map string_bytes words.now)) result }
+    ensures answers { Answers (trace_of (map string_bytes words.now)) result }
+    ensures bounded { IfOk result IsBounded }
 {
     match file_and_options(true, &SIM_NUMBERS, words) {
         Some((app, options)) => Ok(Command::Trace {
@@ -136,7 +143,8 @@ fn trace(alloc: Global, words: &[String]) -> Result<Command, CommandRefusal>
 
 #[tactic(auto, unfolding(crate::specs::Commands::run_of))]
 fn run(alloc: Global, words: &[String]) -> Result<Command, CommandRefusal>
-    ensures { Answers (run_of (map string_bytes words.now)) result }
+    ensures answers { Answers (run_of (map string_bytes words.now)) result }
+    ensures bounded { IfOk result IsBounded }
 {
     match file_and_options(true, &RUN_NUMBERS, words) {
         Some((app, options)) => Ok(Command::Run {
@@ -151,7 +159,8 @@ fn run(alloc: Global, words: &[String]) -> Result<Command, CommandRefusal>
 
 #[tactic(auto, unfolding(crate::specs::Commands::group_of))]
 fn group(alloc: Global, words: &[String]) -> Result<Command, CommandRefusal>
-    ensures { Answers (group_of (map string_bytes words.now)) result }
+    ensures answers { Answers (group_of (map string_bytes words.now)) result }
+    ensures bounded { IfOk result IsBounded }
 {
     let Some((app, words)) = file(words) else {
         return Err(CommandRefusal::Usage);
@@ -169,7 +178,8 @@ fn group(alloc: Global, words: &[String]) -> Result<Command, CommandRefusal>
 
 #[tactic(auto, unfolding(crate::specs::Commands::audit_of))]
 fn audit(alloc: Global, words: &[String]) -> Result<Command, CommandRefusal>
-    ensures { Answers (audit_of (map string_bytes words.now)) result }
+    ensures answers { Answers (audit_of (map string_bytes words.now)) result }
+    ensures bounded { IfOk result IsBounded }
 {
     let Some((app, words)) = file(words) else {
         return Err(CommandRefusal::Usage);
@@ -187,7 +197,8 @@ fn audit(alloc: Global, words: &[String]) -> Result<Command, CommandRefusal>
 
 #[tactic(auto, unfolding(crate::specs::Commands::gen_of))]
 fn example(words: &[String]) -> Option<Command>
-    ensures { result ≡ gen_of (map string_bytes words.now) }
+    ensures value { result ≡ gen_of (map string_bytes words.now) }
+    ensures bounded { IfSome result IsBounded }
 {
     let [number, size] = words else {
         return None;
@@ -202,7 +213,8 @@ fn example(words: &[String]) -> Option<Command>
 
 /// The command of this name, told by the words after the name.
 fn named(alloc: Global, name: &str, words: &[String]) -> Result<Command, CommandRefusal>
-    ensures { Answers (called name.now (map string_bytes words.now)) result }
+    ensures answers { Answers (called name.now (map string_bytes words.now)) result }
+    ensures bounded { IfOk result IsBounded }
 {
     match name {
         "check" => check(alloc, words),
@@ -239,7 +251,8 @@ fn named(alloc: Global, name: &str, words: &[String]) -> Result<Command, Command
 /// `Usage` comes exactly where the words are no such command, and `Memory` only where they are one.
 #[tactic(auto, unfolding(crate::specs::Commands::command_of))]
 pub fn command(alloc: Global, words: &[String]) -> Result<Command, CommandRefusal>
-    ensures { Answers (command_of (map string_bytes words.now)) result }
+    ensures answers { Answers (command_of (map string_bytes words.now)) result }
+    ensures bounded { IfOk result IsBounded }
 {
     match words {
         [name, words @ ..] => named(alloc, name.as_str(), words),
@@ -249,7 +262,8 @@ pub fn command(alloc: Global, words: &[String]) -> Result<Command, CommandRefusa
 
 #[tactic(auto, unfolding(crate::specs::Commands::resume_told))]
 fn resume(alloc: Global, words: &[String]) -> Result<ResumeWords, CommandRefusal>
-    ensures { Answers (resume_told (map string_bytes words.now)) result }
+    ensures answers { Answers (resume_told (map string_bytes words.now)) result }
+    ensures bounded { IfOk result (λ told. IsSettings told.settings) }
 {
     let Some((app, words)) = file(words) else {
         return Err(CommandRefusal::Usage);
@@ -270,7 +284,8 @@ fn resume(alloc: Global, words: &[String]) -> Result<ResumeWords, CommandRefusal
 /// `Usage` comes exactly where the words are no such command, and `Memory` only where they are one.
 #[tactic(auto, unfolding(crate::specs::Commands::resume_of))]
 pub fn resume_words(alloc: Global, words: &[String]) -> Result<ResumeWords, CommandRefusal>
-    ensures { Answers (resume_of (map string_bytes words.now)) result }
+    ensures answers { Answers (resume_of (map string_bytes words.now)) result }
+    ensures bounded { IfOk result (λ told. IsSettings told.settings) }
 {
     match words {
         [name, words @ ..] if name.as_str() == "resume" => resume(alloc, words),
@@ -280,7 +295,8 @@ pub fn resume_words(alloc: Global, words: &[String]) -> Result<ResumeWords, Comm
 
 #[tactic(auto, unfolding(crate::specs::Commands::record_told))]
 fn per(words: &[String]) -> Option<u32>
-    ensures { result ≡ record_told (map string_bytes words.now) }
+    ensures value { result ≡ record_told (map string_bytes words.now) }
+    ensures bounded { IfSome result (IsWithin 1 1000000) }
 {
     let [per, dir] = words else {
         return None;
@@ -301,6 +317,7 @@ fn per(words: &[String]) -> Option<u32>
 pub fn record_words(words: &[String]) -> Result<u32, CommandRefusal>
     ensures answers { Answers (record_of (map string_bytes words.now)) result }
     ensures words { IfErr result (λ e. e ≡ Usage) }
+    ensures bounded { IfOk result (IsWithin 1 1000000) }
 {
     match words {
         [name, words @ ..] if name.as_str() == "record" => {
