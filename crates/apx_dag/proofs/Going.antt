@@ -35,7 +35,7 @@ ports-fed (Inner kind) left right P f = (f left (inl refl), right-fed (has_right
     right-fed false g = tt
 ports-fed Sink left right P f = f left (inl refl)
 
-link-of-node : (nodes : List Node) (i : ℕ) → i < length nodes → link_at (sources_in nodes) i ≡ sources_of (node_at nodes i)
+pub link-of-node : (nodes : List Node) (i : ℕ) → i < length nodes → link_at (sources_in nodes) i ≡ sources_of (node_at nodes i)
 link-of-node nodes i h = get_or-map sources_of nodes i _ _ h
 
 pub can-go : (nodes : List Node) (order : List ℕ) → IsLinkOrder (sources_in nodes) order → CanGo nodes order

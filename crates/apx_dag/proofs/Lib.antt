@@ -4,6 +4,7 @@ pub mod Finding
 pub mod Going
 pub mod Inversions
 pub mod Marking
+pub mod Ordering
 pub mod Placing
 pub mod Ranges
 pub mod Repeats

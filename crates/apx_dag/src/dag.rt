@@ -4,11 +4,11 @@ ghost use Rattle.std.specs.Prelude.{◌≡◌, ◌<◌, ◌≤◌, ℕ, List, []
 ghost use Rattle.std.specs.Str.{bytes_eq};
 ghost use Rattle.apx_pass.specs.Graph as graph;
 ghost use Rattle.apx_pass.specs.Graph.{node_at};
-ghost use Rattle.apx_pass.specs.Order as passing;
+ghost use Rattle.apx_pass.specs.Order.{order_of, IsOrder};
 ghost use Rattle.apx_dag.specs.Dag.{nodes_in, key_texts, node_names};
 ghost use Rattle.apx_dag.specs.Graph.{node_by, graph_of, sources_in, Answers};
 ghost use Rattle.apx_dag.specs.Names.{named_again};
-ghost use Rattle.apx_dag.specs.Order.{IsSource, IsLinkOrder};
+ghost use Rattle.apx_dag.specs.Order.{IsLinkOrder};
 ghost use Rattle.apx_dag.specs.Ports.{link_of, links_of};
 ghost use Rattle.apx_dag.specs.Rules.{operator_name};
 ghost use Rattle.apx_dag.specs.Valid.{IsGraph};
@@ -177,7 +177,8 @@ impl Dag {
     /// at each place the earliest of the file whose sources stand before it.
     pub fn order(&self) -> &[u16]
         ensures earliest { IsLinkOrder (sources_in self.now) result.now }
-        ensures goes { passing.IsOrder self.now result.now }
+        ensures same { result.now ≡ order_of self.now }
+        ensures goes { IsOrder self.now result.now }
     {
         &self.order
     }

@@ -1,15 +1,17 @@
 -- The two cases of what an operator makes of a window: it steps, or it carries what came.
-use Rattle.std.proofs.Common.{◌≡◌, ◌≢◌, ◌<◌, ℕ, ◌%◌, ◌/◌, ◌==◌, ◌∷◌, length, Bool, true, false, cond, List, [], ◌++◌, refl, ap, ◌∙◌, arith}
+use Rattle.std.proofs.Common.{◌≡◌, ◌≢◌, ◌<◌, ℕ, ◌%◌, ◌/◌, ◌==◌, ◌∷◌, length, Bool, true, false, cond, List, [], ◌++◌, ◌⊎◌, inl, inr, refl, ap, ◌∙◌, arith}
 use borrow.Author.Tests.{eqb-true}
 use Rattle.apx_order.proofs.Sorting.{sorted-of-ascending}
 use Rattle.apx_tuple.specs.declared.kind.Kind.{Kind}
 use Rattle.apx_tuple.specs.declared.progress.Progress.{Progress}
 use Rattle.apx_tuple.specs.declared.tuple.Tuple.{Tuple}
-use Rattle.apx_tuple.specs.Tuple.{bag_of, IsBag}
+use Rattle.apx_tuple.specs.Progress.{IsLargeProgress}
+use Rattle.apx_tuple.specs.Size.{IsLarge}
+use Rattle.apx_tuple.specs.Tuple.{bag_of, tuple_key, IsBag}
 use Rattle.apx_tuple.proofs.Orders.{tuple_order-exact}
 use Rattle.apx_rules.specs.Step.{step, Stepped}
 use Rattle.apx_pass.specs.Pass.{Passed, gather}
-use Rattle.apx_mean.specs.Views.{carry}
+use Rattle.apx_mean.specs.Views.{carry, IsLargeStep}
 
 -- what an operator makes of a window of a step
 abbrev pub after_step : Stepped → Passed
@@ -35,3 +37,8 @@ bag_of-bag before tuples e b = ap (λ (xs : List Tuple). bag_of (xs ++ tuples)) 
 pub no-members : (tuples : List Tuple) → length tuples < 1 → tuples ≡ []
 no-members [] h = refl
 no-members (t ∷ ts) h = absurd (omega arith)
+
+-- what is too large of a step is too large of what is carried on and given then
+pub large-step : (s : Stepped) → IsLargeStep s → IsLargeProgress (after_step s).progress ⊎ IsLarge tuple_key (after_step s).rows
+large-step s (inl state) = inl (omega arith)
+large-step s (inr rows) = inr rows

@@ -1,10 +1,10 @@
 -- The first sink, looked for from the front.
 use Rattle.std.proofs.Common.{◌≡◌, ℕ, ◌+◌, ◌<◌, ◌≤◌, Bool, true, false, cond, List, [], ◌∷◌, length, drop, get_or, ap, ◌∙◌, arith, drop-cons, add-one, suc, zero}
-use Rattle.apx_pass.specs.Graph.{Role, Input, Inner, Sink, Node, node_at}
+use Rattle.apx_pass.specs.Graph.{Role, Input, Inner, Sink, Node, node_at, is_sink}
 use Rattle.apx_pass.specs.Valid.{IsValidRole, IsValid}
 use Rattle.apx_dag.specs.Valid.{IsRole, IsGraph}
 use Rattle.std.proofs.lemmas.List.{drop_all}
-use Rattle.apx_pass.specs.Pass.{is_sink, sink_of}
+use Rattle.apx_pass.specs.Pass.{sink_of}
 
 sink_of-cons : (node : Node) (nodes : List Node) (b : Bool) → is_sink node.role ≡ b → sink_of (node ∷ nodes) ≡ cond b 0 (1 + sink_of nodes)
 unfolding sink_of

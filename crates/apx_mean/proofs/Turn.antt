@@ -7,7 +7,7 @@ use Rattle.apx_pass.specs.Graph.{Node, node_at}
 use Rattle.apx_pass.specs.Groups.{Input}
 use Rattle.apx_pass.specs.Large.{IsLargePassed, IsLargeDataflow, right_came}
 use Rattle.apx_pass.specs.Order.{IsOrder}
-use Rattle.apx_pass.specs.Pass.{Dataflow, Passed, at_start, pass_node, pass_window, progress_after, rows_at, input_at}
+use Rattle.apx_pass.specs.Pass.{Dataflow, Passed, at_start, pass_node, pass_window, progress_after, rows_at, input_at, windows}
 use Rattle.apx_pass.proofs.Passing.{pass_window-node}
 use Rattle.apx_mean.specs.Views.{IsPassed}
 
@@ -37,11 +37,11 @@ module _ (flow : Dataflow) (order : List ℕ) (o : IsOrder flow.nodes order) (pa
     made progress rows p = (p.0 ∙ ap (λ (x : Passed). x.progress) same ∙ after (slice_index order k), p.1 ∙ ap (λ (x : Passed). x.rows) same ∙ given (slice_index order k))
 
     -- what is too large for the code is too large in the pass
-    pub made-large : IsLargePassed before (rows_at flow (suc passed) node.left) (right_came node.role (rows_at flow (suc passed) node.right)) (pass_node node input w before (rows_at flow (suc passed) node.left) (rows_at flow (suc passed) node.right)) →
+    pub made-large : passed < windows flow → IsLargePassed before (rows_at flow (suc passed) node.left) (right_came node.role (rows_at flow (suc passed) node.right)) (pass_node node input w before (rows_at flow (suc passed) node.left) (rows_at flow (suc passed) node.right)) →
         IsLargeDataflow flow
-    made-large large =
+    made-large within large =
         let P : Node × Progress × Passed → Type 0 = λ x. IsLargePassed x.1 (rows_at flow (suc passed) x.0.left) (right_came x.0.role (rows_at flow (suc passed) x.0.right)) x.2 in
-        record { passed = passed; operator = slice_index order k; is = subst P (λ j. (n j, b j, same j)) large }
+        record { passed = passed; within = within; operator = slice_index order k; there = o.known k h; is = subst P (λ j. (n j, b j, same j)) large }
 
 -- a list that has gone one place further
 pub map-one-more : {X : Type 0} (f : ℕ → X) (order : List ℕ) (k n : ℕ) (made : X) (before after : List X) → k < length order → n ≡ k + 1 → before ≡ map f (take k order) → made ≡ f (slice_index order k) → after ≡ before ++ made ∷ [] → after ≡ map f (take n order)

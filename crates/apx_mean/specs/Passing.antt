@@ -1,5 +1,5 @@
 -- A pass that has gone through some windows.
-use Rattle.std.specs.Prelude.{◌≡◌, ℕ, ◌<◌, List, length, map, slice_index, Option}
+use Rattle.std.specs.Prelude.{◌≡◌, ℕ, ◌<◌, List, length, map, slice_index}
 use Rattle.apx_tuple.specs.declared.progress.Progress.{Progress}
 use Rattle.apx_pass.specs.Graph.{Node}
 use Rattle.apx_pass.specs.Groups.{Input}
@@ -21,5 +21,5 @@ pub record IsPassing (passing : Passing) (order : List ℕ) (sink : ℕ) (progre
   pub carried : progress ≡ map (progress_after passing.flow passing.passed) order
 
 -- the dataflow of these operators and inputs
-abbrev pub dataflow_of : List Node → List (Option Input) → Dataflow
+abbrev pub dataflow_of : List Node → List Input → Dataflow
 dataflow_of nodes inputs = record { nodes = nodes; inputs = inputs }

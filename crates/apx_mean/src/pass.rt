@@ -1,9 +1,10 @@
 //! One pass over a graph, a window at a time.
-ghost use Rattle.std.specs.Prelude.{◌≡◌, ◌<◌, ◌+◌, ℕ, suc, None, length, map, slice_index, slice_index_or, IfOk};
+ghost use Rattle.std.specs.Prelude.{◌≡◌, ◌<◌, ◌≤◌, ◌+◌, ℕ, suc, length, map, slice_index, IfOk};
 ghost use Rattle.std.specs.Option.{option_copied};
 ghost use Rattle.apx_pass.specs.Order.{IsBefore, IsOrder};
 ghost use Rattle.apx_pass.specs.Valid.{IsValid};
-ghost use Rattle.apx_pass.specs.Pass.{at_start, progress_after, rows_at, is_sink, sink_of};
+ghost use Rattle.apx_pass.specs.Graph.{is_input, is_sink};
+ghost use Rattle.apx_pass.specs.Pass.{at_start, progress_after, rows_at, inputs_before, input_at, windows, sink_of};
 ghost use Rattle.apx_mean.specs.Passing.{dataflow_of};
 ghost use Rattle.apx_pass.specs.Large.{IsLargeDataflow};
 
@@ -18,8 +19,8 @@ use std::marker::Model;
 #[derive(Drop)]
 pub struct OnePass<'a> {
     dag: &'a Dag,
-    /// The windows of each operator that is an input, by the operators' numbers.
-    inputs: &'a [Option<Windows>],
+    /// What each input reads, in the order of the file.
+    inputs: &'a [Windows],
     /// The operators' numbers, each behind those that it reads.
     order: &'a [u16],
     /// The sink's place in the order.
@@ -42,14 +43,14 @@ impl<'a> Model for OnePass<'a> {
 impl<'a> OnePass<'a> {
     ghost use Rattle.std.specs.Prelude.{◌≡◌, ◌<◌, ◌+◌, suc, IfOk};
     ghost use Rattle.apx_mean.specs.Passing.{dataflow_of};
-    ghost use Rattle.apx_pass.specs.Pass.{Dataflow, rows_at, sink_of};
+    ghost use Rattle.apx_pass.specs.Pass.{Dataflow, rows_at, sink_of, windows};
     ghost use Rattle.apx_pass.specs.Large.{IsLargeDataflow};
 
     /// A pass that has gone through no window yet.
     pub fn new(
         alloc: Global,
         dag: &'a Dag,
-        inputs: &'a [Option<Windows>],
+        inputs: &'a [Windows],
     ) -> Result<OnePass<'a>, AllocError>
         ensures { IfOk result (λ pass. pass ≡ record { flow = dataflow_of dag.now inputs.now; passed = 0 }) }
     {
@@ -66,11 +67,12 @@ impl<'a> OnePass<'a> {
         })
     }
 
-    /// Goes through the next window and gives the rows that reach the sink in it.
+    /// Goes through the next window of the application and gives the rows that reach the sink in it.
     ///
     /// `Large` comes only where a bag or a state that the pass names is too large.
     pub fn next(self, alloc: Global) -> Result<(OnePass<'a>, Bag), Short>
-        requires { self.passed < 20000 }
+        requires passed { self.passed < 20000 }
+        requires within { self.passed < windows self.flow }
         ensures ok { IfOk result (λ r. (r.0 ≡ record { flow = self.entry.flow; passed = self.entry.passed + 1 }) × (r.1 ≡ rows_at self.entry.flow (suc self.entry.passed) (sink_of self.entry.flow.nodes))) }
         ensures large { result ≡ Err Short.Large → IsLargeDataflow self.entry.flow }
     {
@@ -121,26 +123,40 @@ fn place_of(order: &[u16], operator: u16) -> usize
     unreachable!()
 }
 
-/// The windows of an operator, if it is an input.
-fn input_of(inputs: &[Option<Windows>], operator: u16) -> Option<&Windows>
-    ensures { option_copied result ≡ slice_index_or inputs.now operator None }
+/// How many of the operators before one are inputs.
+fn inputs_before(dag: &Dag, operator: u16) -> usize
+    requires { operator ≤ length dag.now }
+    ensures { result ≡ inputs_before dag.now operator }
 {
-    match inputs.get(operator as usize) {
-        Some(Some(windows)) => Some(windows),
-        _ => None,
+    let mut count = 0;
+    for other in 0..operator {
+        if is_input(dag.node(other)) {
+            count += 1;
+        }
     }
+    count
+}
+
+/// What an operator reads, where it is an input.
+#[tactic(auto, unfolding(apx_pass::specs::Pass::input_at))]
+fn input_of<'a>(dag: &Dag, inputs: &'a [Windows], operator: u16) -> Option<&'a Windows>
+    requires { operator ≤ length dag.now }
+    ensures { option_copied result ≡ input_at (dataflow_of dag.now inputs.now) operator }
+{
+    inputs.get(inputs_before(dag, operator))
 }
 
 /// What each operator carries on from the window after `passed`, and what it gives in it, in the order.
 fn pass_all(
     alloc: Global,
     dag: &Dag,
-    inputs: &[Option<Windows>],
+    inputs: &[Windows],
     order: &[u16],
     passed: u32,
     progress: Vec<Progress>,
 ) -> Result<(Vec<Progress>, Vec<Bag>), Short>
     requires passed { passed < 20000 }
+    requires within { passed < windows (dataflow_of dag.now inputs.now) }
     requires order { IsOrder dag.now order.now }
     requires valid { IsValid dag.now }
     requires carried { progress.items ≡ map (progress_after (dataflow_of dag.now inputs.now) passed) order.now }
@@ -153,7 +169,7 @@ fn pass_all(
     for before in progress {
         let operator = order[rows.len()];
         let node = dag.node(operator);
-        let input = input_of(inputs, operator);
+        let input = input_of(dag, inputs, operator);
         let made = pass_operator(alloc, node, input, order, &rows, passed + 1, before)?;
         carried.push(made.progress)?;
         rows.push(made.rows)?;
@@ -174,8 +190,16 @@ fn sink_number(dag: &Dag) -> u16
     dag.len()
 }
 
+/// Whether an operator is the sink.
 fn is_sink(node: &Node) -> bool
     ensures { result ≡ is_sink node.now.role }
 {
     matches!(node.role, Role::Sink)
+}
+
+/// Whether an operator is an input.
+fn is_input(node: &Node) -> bool
+    ensures { result ≡ is_input node.now.role }
+{
+    matches!(node.role, Role::Input { .. })
 }

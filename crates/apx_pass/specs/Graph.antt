@@ -1,5 +1,5 @@
 -- Applications as plain records: a graph is its list of operators, in the order of the file.
-use Rattle.std.specs.Prelude.{ℕ, List, [], slice_index_or}
+use Rattle.std.specs.Prelude.{ℕ, Bool, true, false, List, [], slice_index_or}
 use Rattle.apx_tuple.specs.declared.kind.Kind.{Kind}
 use Rattle.apx_tuple.specs.declared.kind.InputKind.{InputKind}
 
@@ -22,3 +22,15 @@ pub record Node : Type 0 where
 -- the operator with a number, from 0; past the last one, a sink without a name
 abbrev pub node_at : List Node → ℕ → Node
 node_at nodes number = slice_index_or nodes number (record { name = []; role = Sink; partitions = 1; left = number; right = number; app_windows = 1 })
+
+-- whether an operator is an input
+abbrev pub is_input : Role → Bool
+is_input (Input kind file per_window) = true
+is_input (Inner kind) = false
+is_input Sink = false
+
+-- whether it is the sink
+abbrev pub is_sink : Role → Bool
+is_sink (Input kind file per_window) = false
+is_sink (Inner kind) = false
+is_sink Sink = true

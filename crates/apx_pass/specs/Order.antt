@@ -1,8 +1,54 @@
--- Orders in which the operators of a graph can be gone through, each behind those that it reads.
-use Rattle.std.specs.Prelude.{◌≡◌, ℕ, ◌<◌, List, length, slice_index, ⊤}
+-- Who reads whom in a graph, and the orders in which its operators can be gone through.
+--     reads nodes o s       operator o reads operator s
+--     is_below nodes s o    operator o is downstream of operator s
+--     order_of nodes        the operators in an order in which they can step
+--     IsOrder nodes order   the order has every operator, each behind those that it reads
+use Rattle.std.specs.Prelude.{◌≡◌, ℕ, zero, suc, ◌<◌, ◌==◌, ◌&&◌, ◌||◌, not, Bool, false, cond, List, [], ◌∷◌, ◌++◌, length, find, slice_index, ⊤}
+use Rattle.std.specs.List.{list_any, list_all, range_with_len}
+use Rattle.std.specs.Option.{option_map_or}
 use Rattle.std.specs.Bool.{MatchBool}
 use Rattle.apx_tuple.specs.Kind.{has_right}
 use Rattle.apx_pass.specs.Graph.{Role, Input, Inner, Sink, Node, node_at}
+
+-- the operators that ports read: an input has none, the sink one, and another as many as its kind has
+unfoldable pub sources_of : Role → ℕ → ℕ → List ℕ
+sources_of (Input kind file per_window) left right = []
+sources_of (Inner kind) left right = left ∷ cond (has_right kind) (right ∷ []) []
+sources_of Sink left right = left ∷ []
+
+-- the operators that an operator reads
+abbrev pub sources : List Node → ℕ → List ℕ
+sources nodes o = sources_of (node_at nodes o).role (node_at nodes o).left (node_at nodes o).right
+
+-- a number stands among some
+abbrev pub stands_in : List ℕ → ℕ → Bool
+stands_in numbers n = list_any (λ other. n == other) numbers
+
+-- operator o reads operator s
+abbrev pub reads : List Node → ℕ → ℕ → Bool
+reads nodes o s = stands_in (sources nodes o) s
+
+-- operator o is reached from operator s over one stream or more, and at most so many
+unfoldable pub is_below_within : ℕ → List Node → ℕ → ℕ → Bool
+is_below_within zero nodes s o = false
+is_below_within (suc streams) nodes s o = list_any (λ source. s == source || is_below_within streams nodes s source) (sources nodes o)
+
+-- operator o is downstream of operator s. No stream leads back, so that as many streams as there are operators reach all
+abbrev pub is_below : List Node → ℕ → ℕ → Bool
+is_below nodes = is_below_within (length nodes) nodes
+
+-- operator o isn't placed, and each that it reads is
+abbrev pub is_ready : List Node → List ℕ → ℕ → Bool
+is_ready nodes placed o = not (stands_in placed o) && list_all (stands_in placed) (sources nodes o)
+
+-- so many more places behind those that are filled: in each stands the earliest operator of the file that is ready
+unfoldable pub order_behind : ℕ → List Node → List ℕ → List ℕ
+order_behind zero nodes placed = []
+order_behind (suc places) nodes placed = option_map_or (λ o. o ∷ order_behind places nodes (placed ++ o ∷ [])) (find (is_ready nodes placed) (range_with_len 0 (length nodes))) []
+
+-- all operators, each behind those that it reads: at each place the earliest of the file whose sources are placed
+abbrev pub order_of : List Node → List ℕ
+order_of nodes = order_behind (length nodes) nodes []
 
 -- what holds of the ports that there are: an input has none, the sink one, and another as many as its kind has
 unfoldable pub OfPorts : Role → Type 0 → Type 0 → Type 0

@@ -6,7 +6,7 @@
 --     rows_at dataflow w o           what operator o gives in window w
 --     windows dataflow               how many windows there are
 --     mean dataflow                  the sink's rows of each window
-use Rattle.std.specs.Prelude.{ℕ, zero, suc, ◌+◌, ◌/◌, ◌%◌, ◌==◌, max, Bool, true, false, cond, List, [], ◌∷◌, ◌++◌, length, Option, Some, None, slice_index_or}
+use Rattle.std.specs.Prelude.{ℕ, zero, suc, ◌+◌, ◌/◌, ◌%◌, ◌==◌, max, Bool, true, false, cond, List, [], ◌∷◌, ◌++◌, length, Option, Some, None, slice_get, take, count_by}
 use Rattle.apx_tuple.specs.declared.kind.Kind.{Kind}
 use Rattle.apx_tuple.specs.declared.progress.Progress.{Progress}
 use Rattle.apx_tuple.specs.declared.tuple.Tuple.{Tuple}
@@ -14,13 +14,13 @@ use Rattle.apx_tuple.specs.Kind.{has_right}
 use Rattle.apx_tuple.specs.Tuple.{bag_of}
 use Rattle.apx_rules.specs.Step.{step}
 use Rattle.apx_pass.specs.Graph as graph
-use Rattle.apx_pass.specs.Graph.{Role, Node, node_at}
+use Rattle.apx_pass.specs.Graph.{Role, Node, node_at, is_input, is_sink}
 use Rattle.apx_pass.specs.Groups.{Input, groups, window_bag}
 
--- an application with what its inputs read: one place for each operator, empty where it is no input
+-- an application with what its inputs read, in the order of the file
 pub record Dataflow : Type 0 where
   pub nodes : List Node
-  pub inputs : List (Option Input)
+  pub inputs : List Input
 
 -- what an operator carries at the start: nothing
 abbrev pub at_start : Progress
@@ -42,9 +42,13 @@ gather kind app_windows w progress left right =
     (record { progress = record { state = stepped.state; left = []; right = [] }; rows = stepped.rows })
     (record { progress = record { state = progress.state; left = l; right = r }; rows = [] })
 
--- the input of an operator, if it is one
-abbrev pub input_at : Dataflow → ℕ → Option Input
-input_at flow o = slice_index_or flow.inputs o None
+-- how many of the operators before number o are inputs
+unfoldable pub inputs_before : List Node → ℕ → ℕ
+inputs_before nodes o = count_by (λ node. is_input node.role) (take o nodes)
+
+-- what an operator reads, where it is an input
+unfoldable pub input_at : Dataflow → ℕ → Option Input
+input_at flow o = slice_get flow.inputs (inputs_before flow.nodes o)
 
 -- what an input gives in window w, and nothing where there is no input
 abbrev pub rows_of_input : Option Input → ℕ → List Tuple
@@ -84,19 +88,13 @@ rows_at flow zero o = []
 rows_at flow (suc w) o = (pass_window flow (suc w) (progress_after flow w) o).rows
 
 -- the greatest number of windows of any input
-unfoldable pub windows_of : List (Option Input) → ℕ
+unfoldable pub windows_of : List Input → ℕ
 windows_of [] = 0
-windows_of (None ∷ inputs) = windows_of inputs
-windows_of (Some input ∷ inputs) = max (groups input) (windows_of inputs)
+windows_of (input ∷ inputs) = max (groups input) (windows_of inputs)
 
 -- how many windows a dataflow has
 abbrev pub windows : Dataflow → ℕ
 windows flow = windows_of flow.inputs
-
--- whether a role is the sink
-abbrev pub is_sink : Role → Bool
-is_sink graph.Sink = true
-is_sink _ = false
 
 -- the number of the first sink
 unfoldable pub sink_of : List Node → ℕ

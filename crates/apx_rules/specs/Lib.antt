@@ -1,2 +1,4 @@
+pub mod Parts
+pub mod Ranks
 pub mod Rule
 pub mod Step

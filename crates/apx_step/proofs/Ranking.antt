@@ -1,30 +1,15 @@
 -- The tuples that rank first.
 use Rattle.std.proofs.Common.{◌≡◌, ℕ, List, [], take, sym, ap, ◌∙◌}
-use Rattle.std.specs.declared.cmp.Ordering.TheVariants.{Equal}
-use Rattle.std.specs.Ordering.{int_cmp}
-use Rattle.std.proofs.lemmas.Cmp.{int_ranked}
 use Rattle.std.proofs.lemmas.List.{take-map}
-use Rattle.apx_order.specs.Sorted.{IsExact, sorted}
+use Rattle.apx_order.specs.Sorted.{sorted}
 use Rattle.apx_tuple.specs.declared.kind.Kind.{Kind}
 use Rattle.apx_tuple.specs.declared.kind.Kind.TheVariants.{Top}
 use Rattle.apx_tuple.specs.declared.tuple.Tuple.{Tuple}
 use Rattle.apx_tuple.specs.State.{Pair}
-use Rattle.apx_tuple.specs.Tuple.{key_order, bag_of}
-use Rattle.apx_tuple.proofs.Orders.{both-equal, key_order-tight}
+use Rattle.apx_tuple.specs.Tuple.{bag_of}
 use Rattle.apx_rules.specs.Step.{rank_order, top_of, step}
 use Rattle.apx_step.specs.declared.top.Ranked.{Ranked}
 use Rattle.apx_step.specs.Places.{tuples_ranked}
-use Rattle.apx_step.specs.Ranks.{rank_order-total}
-
-rank_order-tight : (x y : Tuple) → rank_order x y ≡ Equal → x ≡ y
-rank_order-tight x y e =
-    let both = both-equal (int_cmp y.value x.value) (key_order x.key y.key) e in
-    let values : x.value ≡ y.value = sym (int_ranked y.value x.value Equal (sym both.0)) in
-    let keys : x.key ≡ y.key = key_order-tight x.key y.key both.1 in
-    λ i. record { key = keys i; value = values i }
-
-pub rank_order-exact : IsExact rank_order
-rank_order-exact = record { total = rank_order-total; tight = rank_order-tight }
 
 -- the first k of the tuples in their order
 pub top-first : (k : ℕ) (places taken : List Ranked) (bag tuples : List Tuple) → tuples_ranked places ≡ sorted rank_order bag → taken ≡ take k places → tuples ≡ tuples_ranked taken → bag_of tuples ≡ top_of k bag

@@ -6,7 +6,7 @@ ghost use Rattle.apx_tuple.specs.Size.{IsLarge};
 ghost use Rattle.apx_tuple.specs.Tuple.{tuple_key, key_order};
 ghost use Rattle.apx_rules.specs.Step.{rank_order, top_of};
 ghost use Rattle.apx_order.specs.Sorted.{sorted};
-ghost use Rattle.apx_step.specs.Ranks.{rank_order-total};
+ghost use Rattle.apx_rules.specs.Ranks.{rank_order-total};
 ghost use Rattle.apx_step.specs.Places.{tuples_ranked};
 
 use crate::rules::emit;

@@ -1,4 +1,5 @@
 pub mod Kind
+pub mod Progress
 pub mod Size
 pub mod State
 pub mod Tuple

@@ -1,5 +1,5 @@
 use Rattle.std.proofs.Common.{inr}
-use Rattle.apx_mean.proofs.Gathering.{gather-steps, gather-carries}
+use Rattle.apx_mean.proofs.Gathering.{gather-steps, gather-carries, large-step}
 use Rattle.apx_mean.proofs.gather.gather.Goals as goal
 
 pub returns-then-window-app_windows-ne0-clause-ok : goal.returns-then-window-app_windows-ne0-clause-ok
@@ -15,7 +15,7 @@ returns-then-begins_anew-clause-large c = λ refused.
     record {
       is = inr (inr
           (rw (gather-steps c.args.kind.now c.args.app_windows c.args.window c.args.before c.args.left.now c.args.right.now c.if-window-app_windows-ne0.false, c.if-begins_anew.ensures.left, c.if-begins_anew.ensures.right)
-          (c.stepped.ensures.large refused)));
+          (large-step _ (c.stepped.ensures.large refused))));
     }
 
 pub returns-clause-ok : goal.returns-clause-ok
@@ -28,5 +28,5 @@ returns-clause-large c = λ refused.
     record {
       is = inr (inr
           (rw (gather-steps c.args.kind.now c.args.app_windows c.args.window c.args.before c.args.left.now c.args.right.now c.if-window-app_windows-ne0.false, ← c.in_ok-left.ensures.ok, ← c.in_ok-right.ensures.ok)
-          (c.stepped-2.ensures.large refused)));
+          (large-step _ (c.stepped-2.ensures.large refused))));
     }

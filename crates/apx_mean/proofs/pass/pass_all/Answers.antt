@@ -20,7 +20,7 @@ returns-in_err-made-clause-large c = λ refused.
     let count : c.len.result ≡ length c.loop-before.rows.items = search rules in
     let n : c.len.result ≡ length c.loop-before.yielded = count ∙ rows.0 in
     let h = here c.args.progress.items c.args.order.now (progress_after flow c.args.passed) c.len.result (length c.loop-before.yielded) c.in-Some.before n c.requires.carried t.0 t.1 in
-    made-large flow c.args.order.now c.requires.order c.args.passed c.len.result h.0 _ c.node-node.ensures _ c.input_of-input.ensures c.in-Some.before h.1 (c.args.passed + 1) (omega arith)
+    made-large flow c.args.order.now c.requires.order c.args.passed c.len.result h.0 _ c.node-node.ensures _ c.input_of-input.ensures c.in-Some.before h.1 (c.args.passed + 1) (omega arith) c.requires.within
     (let q = rw refused at c.from_residual.ensures.1 in
     c.in_err-made.ensures.large (rows_at flow (suc c.args.passed)) (c.deref.ensures.value ∙ rows.1 ∙ ap (λ (xs : List (List Tuple)). map (rows_at flow (suc c.args.passed)) (take (length xs) c.args.order.now)) (sym c.deref.ensures.value)) (ap (λ (e : Short). Err e) (sym q)))
 

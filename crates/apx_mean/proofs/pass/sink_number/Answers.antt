@@ -1,6 +1,5 @@
 use Rattle.std.proofs.Common.{◌≤◌, ◌<◌, length, arith, sym, ap, ◌∙◌}
-use Rattle.apx_pass.specs.Graph.{Node}
-use Rattle.apx_pass.specs.Pass.{is_sink}
+use Rattle.apx_pass.specs.Graph.{Node, is_sink}
 use Rattle.apx_mean.proofs.Sinks.{sink-here, sink-past, sink-nowhere, valid-graph}
 use Rattle.apx_mean.proofs.pass.sink_number.Goals as goal
 

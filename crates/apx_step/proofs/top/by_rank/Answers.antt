@@ -3,7 +3,7 @@ use Rattle.std.proofs.lemmas.Grind.{common_steps}
 use Rattle.apx_order.proofs.Mapped.{sorted-by-part}
 use Rattle.apx_step.specs.declared.top.Ranked.{Ranked}
 use Rattle.apx_step.specs.Places.{tuples_ranked}
-use Rattle.apx_step.proofs.Ranking.{rank_order-exact}
+use Rattle.apx_rules.proofs.Ranks.{rank_order-exact}
 use Rattle.apx_step.proofs.top.by_rank.Goals as goal
 
 pub returns : goal.returns
