@@ -1,6 +1,6 @@
 -- Words and files are read in one way: a run's dataflow is one, what is refused first is one, and no words
 -- and files have both.
-use Rattle.std.proofs.Common.{◌≡◌, ℕ, ◌<◌, ◌⊎◌, inl, inr, List, [], ◌∷◌, length, Option, Some, None, Ok, Err, arith, refl, ap, sym, subst, ◌∙◌}
+use Rattle.std.proofs.Common.{◌≡◌, ℕ, ◌<◌, ◌⊎◌, Bool, true, false, inl, inr, List, [], ◌∷◌, length, filter_map, Option, Some, None, Ok, Err, arith, refl, ap, sym, subst, ◌∙◌}
 use Rattle.apx_device.specs.Folder.{IsPast}
 use Rattle.apx_json.specs.Texts.{Application}
 use Rattle.apx_json.specs.Reading.{Reads}
@@ -19,9 +19,8 @@ use Rattle.apx_load.specs.declared.refusal.LineCause.TheVariants as cause
 use Rattle.apx_load.specs.declared.refusal.Refusal.{Refusal}
 use Rattle.apx_load.specs.declared.refusal.Refusal.TheVariants.{NotACommand, NoFile, FileTooLong, NoJson, WrongShape, BrokenRule, RefusedLine}
 use Rattle.apx_load.specs.declared.words.Action.{Action}
-use Rattle.apx_load.specs.declared.words.Action.TheVariants.{Sim}
-use Rattle.apx_load.specs.Words.{command_of}
-use Rattle.apx_load.specs.Refusals.{Told, IsAppText, IsTextRefusal, IsFile, IsFileRefusal, IsApplication, IsApplicationRefusal, cause_view, IsInputOf, IsLineRefusal, IsInputRefusal, AreInputs, IsInputsRefusal, IsDataflow, IsRefusal, of_words, of_application, of_inputs}
+use Rattle.apx_load.specs.Words.{command_of, reads_inputs}
+use Rattle.apx_load.specs.Refusals.{by_files, IsAppText, IsTextRefusal, IsFileRefusal, IsApplication, IsApplicationRefusal, cause_view, IsInputOf, IsLineRefusal, IsInputRefusal, AreRead, AreInputs, IsInputsRefusal, IsAcceptedRun, IsRunRefusal, IsAcceptedBy, IsRefusedBy, AreAccepted, IsRefusal, of_words, of_files}
 
 -- at most one thing is accepted, at most one refusal comes, and never both
 pub record IsDecided (X : Type 0) (A : X → Type 0) (R : Refusal → Type 0) : Type 0 where
@@ -50,30 +49,31 @@ then X Y A R B S first next = record {
 
 -- ---- a file
 
-file_accepted : (told : Told) (name : List ℕ) (limit : ℕ) (x y : List ℕ) → IsFile told name limit x → IsFile told name limit y → x ≡ y
-file_accepted told name limit x y p q = let a : told name ≡ Some x = p.there in let b : told name ≡ Some y = q.there in cc
+module _ (told : List ℕ → Option (List ℕ)) (name : List ℕ) (limit : ℕ) where
+  file_accepted : (x y : List ℕ) → by_files told name limit (Ok x) → by_files told name limit (Ok y) → x ≡ y
+  file_accepted x y p q = let a : told name ≡ Some x = p.0 in let b : told name ≡ Some y = q.0 in cc
 
-missing_or_long : (told : Told) (name : List ℕ) (limit : ℕ) → told name ≡ None → IsPast limit (told name) → ⊥
-missing_or_long told name limit none past = let some : told name ≡ Some past.bytes = past.is in cc
+  missing_or_long : told name ≡ None → IsPast limit (told name) → ⊥
+  missing_or_long none past = let some : told name ≡ Some past.bytes = past.is in cc
 
-file_refused : (told : Told) (name : List ℕ) (limit : ℕ) (r s : Refusal) → IsFileRefusal told name limit r → IsFileRefusal told name limit s → r ≡ s
-file_refused told name limit (NoFile f) (NoFile g) p q = ap NoFile (p.0 ∙ sym q.0)
-file_refused told name limit (NoFile f) (FileTooLong g) p q = absurd (missing_or_long told name limit p.1 q.1)
-file_refused told name limit (NoFile f) _ p q = absurd q
-file_refused told name limit (FileTooLong f) (NoFile g) p q = absurd (missing_or_long told name limit q.1 p.1)
-file_refused told name limit (FileTooLong f) (FileTooLong g) p q = ap FileTooLong (p.0 ∙ sym q.0)
-file_refused told name limit (FileTooLong f) _ p q = absurd q
-file_refused told name limit _ s p q = absurd p
+  file_refused : (r s : Refusal) → IsFileRefusal (by_files told) name limit r → IsFileRefusal (by_files told) name limit s → r ≡ s
+  file_refused (NoFile f) (NoFile g) p q = ap NoFile (p.0 ∙ sym q.0)
+  file_refused (NoFile f) (FileTooLong g) p q = absurd (missing_or_long p.1.0 q.1.0)
+  file_refused (NoFile f) _ p q = absurd q
+  file_refused (FileTooLong f) (NoFile g) p q = absurd (missing_or_long q.1.0 p.1.0)
+  file_refused (FileTooLong f) (FileTooLong g) p q = ap FileTooLong (p.0 ∙ sym q.0)
+  file_refused (FileTooLong f) _ p q = absurd q
+  file_refused _ s p q = absurd p
 
-file_apart : (told : Told) (name : List ℕ) (limit : ℕ) (x : List ℕ) (r : Refusal) → IsFile told name limit x → IsFileRefusal told name limit r → ⊥
-file_apart told name limit x (NoFile f) p q = let a : told name ≡ Some x = p.there in let b : told name ≡ None = q.1 in cc
-file_apart told name limit x (FileTooLong f) p q =
-    let a : told name ≡ Some x = p.there in let b : told name ≡ Some q.1.bytes = q.1.is in let same : x ≡ q.1.bytes = cc in
-    omega (arith, ap length same, p.fits, q.1.longer)
-file_apart told name limit x _ p q = absurd q
+  file_apart : (x : List ℕ) (r : Refusal) → by_files told name limit (Ok x) → IsFileRefusal (by_files told) name limit r → ⊥
+  file_apart x (NoFile f) p q = let a : told name ≡ Some x = p.0 in let b : told name ≡ None = q.1.0 in cc
+  file_apart x (FileTooLong f) p q =
+      let a : told name ≡ Some x = p.0 in let b : told name ≡ Some q.1.0.bytes = q.1.0.is in let same : x ≡ q.1.0.bytes = cc in
+      omega (arith, ap length same, p.1, q.1.0.longer)
+  file_apart x _ p q = absurd q
 
-file_decided : (told : Told) (name : List ℕ) (limit : ℕ) → IsDecided (List ℕ) (IsFile told name limit) (IsFileRefusal told name limit)
-file_decided told name limit = record { accepted = file_accepted told name limit; refused = file_refused told name limit; apart = file_apart told name limit }
+  file_decided : IsDecided (List ℕ) (λ text. by_files told name limit (Ok text)) (IsFileRefusal (by_files told) name limit)
+  file_decided = record { accepted = file_accepted; refused = file_refused; apart = file_apart }
 
 -- ---- the graph of an application
 
@@ -150,10 +150,10 @@ text_decided text = record { accepted = text_accepted text; refused = text_refus
 
 -- ---- the file of an application
 
-file_then_text : (told : Told) (name : List ℕ) → IsDecided (List Node) (λ nodes. (text : List ℕ) × IsFile told name 1048576 text × IsAppText text nodes) (IsApplicationRefusal told name)
-file_then_text told name = then (List ℕ) (List Node) (IsFile told name 1048576) (IsFileRefusal told name 1048576) IsAppText IsTextRefusal (file_decided told name 1048576) text_decided
+file_then_text : (told : List ℕ → Option (List ℕ)) (name : List ℕ) → IsDecided (List Node) (λ nodes. (text : List ℕ) × by_files told name 1048576 (Ok text) × IsAppText text nodes) (IsApplicationRefusal (by_files told) name)
+file_then_text told name = then (List ℕ) (List Node) (λ text. by_files told name 1048576 (Ok text)) (IsFileRefusal (by_files told) name 1048576) IsAppText IsTextRefusal (file_decided told name 1048576) text_decided
 
-application_decided : (told : Told) (name : List ℕ) → IsDecided (List Node) (IsApplication told name) (IsApplicationRefusal told name)
+application_decided : (told : List ℕ → Option (List ℕ)) (name : List ℕ) → IsDecided (List Node) (IsApplication (by_files told) name) (IsApplicationRefusal (by_files told) name)
 application_decided told name = record {
   accepted = λ x y p q. (file_then_text told name).accepted x y (p.text, p.file, p.app) (q.text, q.file, q.app);
   refused = (file_then_text told name).refused;
@@ -161,10 +161,10 @@ application_decided told name = record {
 }
 
 -- a file is one application
-pub application-or-refusal : (told : Told) (name : List ℕ) (nodes : List Node) (r : Refusal) → IsApplication told name nodes → IsApplicationRefusal told name r → ⊥
+pub application-or-refusal : (told : List ℕ → Option (List ℕ)) (name : List ℕ) (nodes : List Node) (r : Refusal) → IsApplication (by_files told) name nodes → IsApplicationRefusal (by_files told) name r → ⊥
 application-or-refusal told name = let decided = application_decided told name in decided.apart
 
-pub application-unique : (told : Told) (name : List ℕ) (nodes nodes2 : List Node) → IsApplication told name nodes → IsApplication told name nodes2 → nodes ≡ nodes2
+pub application-unique : (told : List ℕ → Option (List ℕ)) (name : List ℕ) (nodes nodes2 : List Node) → IsApplication (by_files told) name nodes → IsApplication (by_files told) name nodes2 → nodes ≡ nodes2
 application-unique told name = (application_decided told name).accepted
 
 -- ---- what an operator reads
@@ -208,11 +208,11 @@ lines_decided read file = record { accepted = λ x y p q. p.1 ∙ sym q.1; refus
 
 -- ---- an input
 
-input_decided : (told : Told) (role : Role) → IsDecided (Option groups.Input) (IsInputOf told role) (IsInputRefusal told role)
+input_decided : (told : List ℕ → Option (List ℕ)) (role : Role) → IsDecided (Option groups.Input) (IsInputOf (by_files told) role) (IsInputRefusal (by_files told) role)
 input_decided told (Input kind file per_window) =
     let read : List ℕ → groups.Input = input_of kind per_window in
-    let both : IsDecided (Option groups.Input) (λ input. (text : List ℕ) × IsFile told file 16777216 text × IsRead (read text) input) (IsInputRefusal told (Input kind file per_window)) =
-    then (List ℕ) (Option groups.Input) (IsFile told file 16777216) (IsFileRefusal told file 16777216) (λ text. IsRead (read text)) (λ text. IsLineRefusal (read text) file) (file_decided told file 16777216) (λ text. lines_decided (read text) file) in
+    let both : IsDecided (Option groups.Input) (λ input. (text : List ℕ) × by_files told file 16777216 (Ok text) × IsRead (read text) input) (IsInputRefusal (by_files told) (Input kind file per_window)) =
+    then (List ℕ) (Option groups.Input) (λ text. by_files told file 16777216 (Ok text)) (IsFileRefusal (by_files told) file 16777216) (λ text. IsRead (read text)) (λ text. IsLineRefusal (read text) file) (file_decided told file 16777216) (λ text. lines_decided (read text) file) in
     record {
       accepted = λ x y p q. both.accepted x y (p.0, p.1.is_file, (p.1.accepted, p.2)) (q.0, q.1.is_file, (q.1.accepted, q.2));
       refused = both.refused;
@@ -223,91 +223,87 @@ input_decided told Sink = record { accepted = λ x y p q. p ∙ sym q; refused =
 
 -- ---- the inputs of all operators
 
-inputs_accepted : (told : Told) (nodes : List Node) (x y : List (Option groups.Input)) → AreInputs told nodes x → AreInputs told nodes y → x ≡ y
-inputs_accepted told [] [] [] p q = refl
-inputs_accepted told [] [] (y ∷ ys) p q = absurd q
-inputs_accepted told [] (x ∷ xs) ys p q = absurd p
-inputs_accepted told (node ∷ nodes) [] ys p q = absurd p
-inputs_accepted told (node ∷ nodes) (x ∷ xs) [] p q = absurd q
-inputs_accepted told (node ∷ nodes) (x ∷ xs) (y ∷ ys) p q =
+each_accepted : (told : List ℕ → Option (List ℕ)) (nodes : List Node) (x y : List (Option groups.Input)) → AreRead (by_files told) nodes x → AreRead (by_files told) nodes y → x ≡ y
+each_accepted told [] [] [] p q = refl
+each_accepted told [] [] (y ∷ ys) p q = absurd q
+each_accepted told [] (x ∷ xs) ys p q = absurd p
+each_accepted told (node ∷ nodes) [] ys p q = absurd p
+each_accepted told (node ∷ nodes) (x ∷ xs) [] p q = absurd q
+each_accepted told (node ∷ nodes) (x ∷ xs) (y ∷ ys) p q =
     let first : x ≡ y = (input_decided told node.role).accepted x y p.0 q.0 in
-    let others : xs ≡ ys = inputs_accepted told nodes xs ys p.1 q.1 in
+    let others : xs ≡ ys = each_accepted told nodes xs ys p.1 q.1 in
     cc
 
-inputs_refused : (told : Told) (nodes : List Node) (r s : Refusal) → IsInputsRefusal told nodes r → IsInputsRefusal told nodes s → r ≡ s
+inputs_accepted : (told : List ℕ → Option (List ℕ)) (nodes : List Node) (x y : List groups.Input) → AreInputs (by_files told) nodes x → AreInputs (by_files told) nodes y → x ≡ y
+inputs_accepted told nodes x y p q = p.are ∙ ap (filter_map (λ input. input)) (each_accepted told nodes p.each q.each p.read q.read) ∙ sym q.are
+
+inputs_refused : (told : List ℕ → Option (List ℕ)) (nodes : List Node) (r s : Refusal) → IsInputsRefusal (by_files told) nodes r → IsInputsRefusal (by_files told) nodes s → r ≡ s
 inputs_refused told [] r s p q = absurd p
 inputs_refused told (node ∷ nodes) r s (inl p) (inl q) = (input_decided told node.role).refused r s p q
 inputs_refused told (node ∷ nodes) r s (inl p) (inr q) = absurd ((input_decided told node.role).apart q.0.0 r q.0.1 p)
 inputs_refused told (node ∷ nodes) r s (inr p) (inl q) = absurd ((input_decided told node.role).apart p.0.0 s p.0.1 q)
 inputs_refused told (node ∷ nodes) r s (inr p) (inr q) = inputs_refused told nodes r s p.1 q.1
 
-inputs_apart : (told : Told) (nodes : List Node) (x : List (Option groups.Input)) (r : Refusal) → AreInputs told nodes x → IsInputsRefusal told nodes r → ⊥
-inputs_apart told [] x r p q = q
-inputs_apart told (node ∷ nodes) [] r p q = p
-inputs_apart told (node ∷ nodes) (x ∷ xs) r p (inl q) = (input_decided told node.role).apart x r p.0 q
-inputs_apart told (node ∷ nodes) (x ∷ xs) r p (inr q) = inputs_apart told nodes xs r p.1 q.1
+each_apart : (told : List ℕ → Option (List ℕ)) (nodes : List Node) (x : List (Option groups.Input)) (r : Refusal) → AreRead (by_files told) nodes x → IsInputsRefusal (by_files told) nodes r → ⊥
+each_apart told [] x r p q = q
+each_apart told (node ∷ nodes) [] r p q = p
+each_apart told (node ∷ nodes) (x ∷ xs) r p (inl q) = (input_decided told node.role).apart x r p.0 q
+each_apart told (node ∷ nodes) (x ∷ xs) r p (inr q) = each_apart told nodes xs r p.1 q.1
+
+inputs_apart : (told : List ℕ → Option (List ℕ)) (nodes : List Node) (x : List groups.Input) (r : Refusal) → AreInputs (by_files told) nodes x → IsInputsRefusal (by_files told) nodes r → ⊥
+inputs_apart told nodes x r p q = each_apart told nodes p.each r p.read q
 
 -- ---- words and files
 
--- a refusal, by whether the words are a command
-abbrev pub IsCommandRefusal : Told → Action → List ℕ → Refusal → Type 0
-IsCommandRefusal told action name refusal = IsApplicationRefusal told name refusal ⊎ ((nodes : List Node) × IsApplication told name nodes × IsInputsRefusal told nodes refusal)
+abbrev dataflow : List Node → List groups.Input → Dataflow
+dataflow nodes inputs = record { nodes = nodes; inputs = inputs }
 
-abbrev pub IsWordsRefusal : List (List ℕ) → Told → Refusal → Type 0
-IsWordsRefusal words told refusal = ((refusal ≡ NotACommand) × (command_of words ≡ None)) ⊎ ((command : Action × List ℕ) × (command_of words ≡ Some command) × IsCommandRefusal told command.0 command.1 refusal)
+module _ (told : List ℕ → Option (List ℕ)) where
+  inputs_decided : (nodes : List Node) → IsDecided (List groups.Input) (AreInputs (by_files told) nodes) (IsInputsRefusal (by_files told) nodes)
+  inputs_decided nodes = record { accepted = inputs_accepted told nodes; refused = inputs_refused told nodes; apart = inputs_apart told nodes }
 
-by_words : (words : List (List ℕ)) (told : Told) (r : Refusal) → IsRefusal words told r → IsWordsRefusal words told r
-by_words words told r (of_words none) = inl (refl, none)
-by_words words told r (of_application action name refusal is p) = inr ((action, name), is, inl p)
-by_words words told r (of_inputs name nodes refusal is app p) = inr ((Sim, name), is, inr (nodes, app, p))
+  run_refused : (name : List ℕ) (r s : Refusal) → IsRunRefusal (by_files told) name r → IsRunRefusal (by_files told) name s → r ≡ s
+  run_refused name = refused_next (List Node) (List groups.Input) (IsApplication (by_files told) name) (IsApplicationRefusal (by_files told) name) (AreInputs (by_files told)) (IsInputsRefusal (by_files told)) (application_decided told name) inputs_decided
 
-same_command : (words : List (List ℕ)) (a b : Action × List ℕ) → command_of words ≡ Some a → command_of words ≡ Some b → a ≡ b
-same_command words a b p q = cc
+  run_apart : (name : List ℕ) (flow : Dataflow) (r : Refusal) → IsAcceptedRun (by_files told) name flow → IsRunRefusal (by_files told) name r → ⊥
+  run_apart name flow r p q =
+      apart_next (List Node) (List groups.Input) (IsApplication (by_files told) name) (IsApplicationRefusal (by_files told) name) (AreInputs (by_files told)) (IsInputsRefusal (by_files told)) (application_decided told name) inputs_decided
+      flow.inputs r (flow.nodes, p.application, p.inputs) q
 
-command_refused : (told : Told) (action : Action) (name : List ℕ) (r s : Refusal) → IsCommandRefusal told action name r → IsCommandRefusal told action name s → r ≡ s
-command_refused told action name r s (inl p) (inl q) = (application_decided told name).refused r s p q
-command_refused told action name r s (inl p) (inr q) = absurd ((application_decided told name).apart q.0 r q.1 p)
-command_refused told action name r s (inr p) (inl q) = absurd ((application_decided told name).apart p.0 s p.1 q)
-command_refused told action name r s (inr p) (inr q) =
-    inputs_refused told q.0 r s (subst (λ (nodes : List Node). IsInputsRefusal told nodes r) ((application_decided told name).accepted p.0 q.0 p.1 q.1) p.2) q.2
+  same_flow : (nodes nodes2 : List Node) (inputs inputs2 : List groups.Input) → nodes ≡ nodes2 → inputs ≡ inputs2 → dataflow nodes inputs ≡ dataflow nodes2 inputs2
+  same_flow nodes nodes2 inputs inputs2 p q = cc
 
-words_refused : (words : List (List ℕ)) (told : Told) (r s : Refusal) → IsWordsRefusal words told r → IsWordsRefusal words told s → r ≡ s
-words_refused words told r s (inl p) (inl q) = p.0 ∙ sym q.0
-words_refused words told r s (inl p) (inr q) = let a = p.1 in let b = q.1 in cc
-words_refused words told r s (inr p) (inl q) = let a = p.1 in let b = q.1 in cc
-words_refused words told r s (inr p) (inr q) =
-    command_refused told q.0.0 q.0.1 r s (subst (λ (c : Action × List ℕ). IsCommandRefusal told c.0 c.1 r) (same_command words p.0 q.0 p.1 q.1) p.2) q.2
+  -- the dataflow of a run is one
+  pub run-unique : (name : List ℕ) (flow other : Dataflow) → IsAcceptedRun (by_files told) name flow → IsAcceptedRun (by_files told) name other → flow ≡ other
+  run-unique name flow other p q =
+      let nodes : flow.nodes ≡ other.nodes = application-unique told name flow.nodes other.nodes p.application q.application in
+      let inputs : flow.inputs ≡ other.inputs = inputs_accepted told other.nodes flow.inputs other.inputs (subst (λ (n : List Node). AreInputs (by_files told) n flow.inputs) nodes p.inputs) q.inputs in
+      same_flow flow.nodes other.nodes flow.inputs other.inputs nodes inputs
 
-command_apart : (told : Told) (action : Action) (name : List ℕ) (nodes : List Node) (inputs : List (Option groups.Input)) (r : Refusal) → IsApplication told name nodes → AreInputs told nodes inputs → IsCommandRefusal told action name r → ⊥
-command_apart told action name nodes inputs r app are (inl q) = (application_decided told name).apart nodes r app q
-command_apart told action name nodes inputs r app are (inr q) =
-    inputs_apart told nodes inputs r are (subst (λ (n : List Node). IsInputsRefusal told n r) ((application_decided told name).accepted q.0 nodes q.1 app) q.2)
+  refused_by : (reads : Bool) (name : List ℕ) (r s : Refusal) → IsRefusedBy (by_files told) reads name r → IsRefusedBy (by_files told) reads name s → r ≡ s
+  refused_by false name r s p q = (application_decided told name).refused r s p q
+  refused_by true name r s p q = run_refused name r s p q
 
-words_apart : (words : List (List ℕ)) (told : Told) (flow : Dataflow) (r : Refusal) → IsDataflow words told flow → IsWordsRefusal words told r → ⊥
-words_apart words told flow r is (inl q) = let a = is.command in let b = q.1 in cc
-words_apart words told flow r is (inr q) =
-    let same : q.0 ≡ (Sim, is.name) = same_command words q.0 (Sim, is.name) q.1 is.command in
-    command_apart told Sim is.name flow.nodes flow.inputs r is.application is.inputs (subst (λ (c : Action × List ℕ). IsCommandRefusal told c.0 c.1 r) same q.2)
+  apart_by : (reads : Bool) (name : List ℕ) (r : Refusal) → IsAcceptedBy (by_files told) reads name → IsRefusedBy (by_files told) reads name r → ⊥
+  apart_by false name r p q = (application_decided told name).apart p.0 r p.1 q
+  apart_by true name r p q = run_apart name p.0 r p.1 q
 
--- the first refusal is one
-pub refusal-unique : (words : List (List ℕ)) (told : Told) (r s : Refusal) → IsRefusal words told r → IsRefusal words told s → r ≡ s
-refusal-unique words told r s p q = words_refused words told r s (by_words words told r p) (by_words words told s q)
+  module _ (words : List (List ℕ)) where
+    same_command : (a b : Action × List ℕ) → command_of words ≡ Some a → command_of words ≡ Some b → a ≡ b
+    same_command a b p q = cc
 
--- what is refused has no dataflow
-pub dataflow-or-refusal : (words : List (List ℕ)) (told : Told) (flow : Dataflow) (r : Refusal) → IsDataflow words told flow → IsRefusal words told r → ⊥
-dataflow-or-refusal words told flow r is refused = words_apart words told flow r is (by_words words told r refused)
+    -- the first refusal is one
+    pub refusal-unique : (r s : Refusal) → IsRefusal (by_files told) words r → IsRefusal (by_files told) words s → r ≡ s
+    refusal-unique r s (of_words none) (of_words none2) = refl
+    refusal-unique r s (of_words none) (of_files action name refusal command is) = cc
+    refusal-unique r s (of_files action name refusal command is) (of_words none) = cc
+    refusal-unique r s (of_files action name refusal command is) (of_files action2 name2 refusal2 command2 is2) =
+        refused_by (reads_inputs action2) name2 refusal refusal2
+        (subst (λ (c : Action × List ℕ). IsRefusedBy (by_files told) (reads_inputs c.0) c.1 refusal) (same_command (action, name) (action2, name2) command command2) is) is2
 
-abbrev pub dataflow_of : List Node → List (Option groups.Input) → Dataflow
-dataflow_of nodes inputs = record { nodes = nodes; inputs = inputs }
-
-same_dataflow : (nodes nodes2 : List Node) (inputs inputs2 : List (Option groups.Input)) → nodes ≡ nodes2 → inputs ≡ inputs2 → dataflow_of nodes inputs ≡ dataflow_of nodes2 inputs2
-same_dataflow nodes nodes2 inputs inputs2 p q = cc
-
--- the dataflow is one
-pub dataflow-unique : (words : List (List ℕ)) (told : Told) (flow job2 : Dataflow) → IsDataflow words told flow → IsDataflow words told job2 → flow ≡ job2
-dataflow-unique words told flow job2 p q =
-    let commands : (Sim, p.name) ≡ (Sim, q.name) = same_command words (Sim, p.name) (Sim, q.name) p.command q.command in
-    let names : p.name ≡ q.name = ap (λ (c : Action × List ℕ). c.1) commands in
-    let nodes : flow.nodes ≡ job2.nodes = application-unique told q.name flow.nodes job2.nodes (subst (λ (name : List ℕ). IsApplication told name flow.nodes) names p.application) q.application in
-    let inputs : flow.inputs ≡ job2.inputs = inputs_accepted told job2.nodes flow.inputs job2.inputs (subst (λ (n : List Node). AreInputs told n flow.inputs) nodes p.inputs) q.inputs in
-    same_dataflow flow.nodes job2.nodes flow.inputs job2.inputs nodes inputs
+    -- what is accepted isn't refused
+    pub accepted-or-refused : (r : Refusal) → AreAccepted (by_files told) words → IsRefusal (by_files told) words r → ⊥
+    accepted-or-refused r are (of_words none) = let command = are.command in cc
+    accepted-or-refused r are (of_files action name refusal command is) =
+        apart_by (reads_inputs are.action) are.name refusal are.files
+        (subst (λ (c : Action × List ℕ). IsRefusedBy (by_files told) (reads_inputs c.0) c.1 refusal) (same_command (action, name) (are.action, are.name) command are.command) is)

@@ -1,12 +1,15 @@
 -- What words and files are accepted, and what is refused of the others.
 --
--- `told` gives the file under each name, where the folder tells.
---     IsApplication told name nodes    the file is an application, and its graph
---     AreInputs told nodes inputs      the files of the inputs are there and accepted, and what they hold
---     IsDataflow words told dataflow             the words and files of a run are accepted, and its dataflow
---     IsRefusal words told refusal     the first thing that is refused
-use Rattle.std.specs.Prelude.{◌≡◌, ℕ, ◌≤◌, ◌⊎◌, List, [], ◌∷◌, length, Option, Some, None, Ok, Err, ⊤}
-use Rattle.apx_device.specs.Folder.{IsPast}
+-- A reading says what is read of a file: `reading name limit gave` is that a read of this name, of at most so many
+-- bytes, gives this. There are two: by the files that a folder tells, and by the answers that a call has heard.
+--     IsApplication reading name nodes       the file is an application, and its graph
+--     AreInputs reading nodes inputs         the files of the inputs are there and accepted, and what they hold
+--     AreAccepted reading words              the words are a command, and the files that it needs are accepted
+--     IsRefusal reading words refusal        the first thing that is refused
+use Rattle.std.specs.Prelude.{◌≡◌, ℕ, ◌≤◌, ◌⊎◌, Bool, true, false, List, [], ◌∷◌, length, filter_map, Option, Some, None, Result, Ok, Err, ⊤}
+use Rattle.apx_device.specs.declared.folder.ReadRefusal.{ReadRefusal}
+use Rattle.apx_device.specs.declared.folder.ReadRefusal.TheVariants as read
+use Rattle.apx_device.specs.Folder.{Says, Answer, Gave}
 use Rattle.apx_json.specs.Texts.{Application}
 use Rattle.apx_json.specs.Reading.{Reads}
 use Rattle.apx_json.specs.declared.refusal.JsonRefusal.TheVariants.{Syntax, Shape}
@@ -21,48 +24,64 @@ use Rattle.apx_load.specs.declared.refusal.LineCause.TheVariants as cause
 use Rattle.apx_load.specs.declared.refusal.Refusal.{Refusal}
 use Rattle.apx_load.specs.declared.refusal.Refusal.TheVariants.{NotACommand, NoFile, FileTooLong, NoJson, WrongShape, BrokenRule, RefusedLine}
 use Rattle.apx_load.specs.declared.words.Action.{Action}
-use Rattle.apx_load.specs.declared.words.Action.TheVariants.{Sim}
-use Rattle.apx_load.specs.Words.{command_of}
+use Rattle.apx_load.specs.Words.{command_of, reads_inputs}
 
--- the files of a folder by their names
-abbrev pub Told : Type 0
-Told = List ℕ → Option (List ℕ)
+-- what a read of a name with a limit gives
+abbrev pub Reading : Type 1
+Reading = List ℕ → ℕ → Result (List ℕ) ReadRefusal → Type 0
+
+-- the bytes that are given are no more than the limit
+abbrev pub IsWithin : ℕ → Result (List ℕ) ReadRefusal → Type 0
+IsWithin limit (Ok bytes) = length bytes ≤ limit
+IsWithin limit (Err refusal) = ⊤
+
+-- the reading by the files that a folder tells
+abbrev pub by_files : (List ℕ → Option (List ℕ)) → Reading
+by_files told name limit gave = Says (told name) limit gave × IsWithin limit gave
+
+-- the reading by the answers that a call has heard
+abbrev pub by_answers : List Answer → Reading
+by_answers answers name limit gave = Gave answers name limit gave × IsWithin limit gave
 
 -- ---- the application's file: at most 1 MiB, a JSON text of the right shape, and a graph that breaks no rule
 
 -- the text is an application with this graph
 pub record IsAppText (text : List ℕ) (nodes : List Node) : Type 0 where
+  -- the application that the text spells
   pub app : Application
+  -- it spells it
   pub read : Reads text (Ok app)
+  -- its graph breaks no rule
   pub graph : Answers app (Ok nodes)
 
--- the text is refused
+-- the text is refused: it is no JSON, it lacks its shape at a place, or its graph breaks a rule
 abbrev pub IsTextRefusal : List ℕ → Refusal → Type 0
 IsTextRefusal text NoJson = Reads text (Err Syntax)
 IsTextRefusal text (WrongShape place) = Reads text (Err (Shape place))
-IsTextRefusal text (BrokenRule code place) = (app : Application) × Reads text (Ok app) × Answers app (Err (RefusedGraph code place))
+IsTextRefusal text (BrokenRule code place) =
+    (app : Application) × Reads text (Ok app) × Answers app (Err (RefusedGraph code place))
 IsTextRefusal text _ = ⊥
 
--- the file is there with this text, of at most so many bytes
-pub record IsFile (told : Told) (name : List ℕ) (limit : ℕ) (text : List ℕ) : Type 0 where
-  pub there : told name ≡ Some text
-  pub fits : length text ≤ limit
-
--- there is no such file, or it is too long
-abbrev pub IsFileRefusal : Told → List ℕ → ℕ → Refusal → Type 0
-IsFileRefusal told name limit (NoFile file) = (file ≡ name) × (told name ≡ None)
-IsFileRefusal told name limit (FileTooLong file) = (file ≡ name) × IsPast limit (told name)
-IsFileRefusal told name limit _ = ⊥
+-- there is no such file, or it is longer than the limit
+abbrev pub IsFileRefusal : Reading → List ℕ → ℕ → Refusal → Type 0
+IsFileRefusal reading name limit (NoFile file) = (file ≡ name) × reading name limit (Err read.Absent)
+IsFileRefusal reading name limit (FileTooLong file) = (file ≡ name) × reading name limit (Err read.TooLong)
+IsFileRefusal reading name limit _ = ⊥
 
 -- the file under a name is an application of at most 1 MiB, with this graph
-pub record IsApplication (told : Told) (name : List ℕ) (nodes : List Node) : Type 0 where
+pub record IsApplication (reading : Reading) (name : List ℕ) (nodes : List Node) : Type 0 where
+  -- the bytes of the file
   pub text : List ℕ
-  pub file : IsFile told name 1048576 text
+  -- they are read
+  pub file : reading name 1048576 (Ok text)
+  -- they are an application
   pub app : IsAppText text nodes
 
 -- the first thing that is refused of it
-abbrev pub IsApplicationRefusal : Told → List ℕ → Refusal → Type 0
-IsApplicationRefusal told name refusal = IsFileRefusal told name 1048576 refusal ⊎ ((text : List ℕ) × IsFile told name 1048576 text × IsTextRefusal text refusal)
+abbrev pub IsApplicationRefusal : Reading → List ℕ → Refusal → Type 0
+IsApplicationRefusal reading name refusal =
+    IsFileRefusal reading name 1048576 refusal
+    ⊎ ((text : List ℕ) × reading name 1048576 (Ok text) × IsTextRefusal text refusal)
 
 -- ---- an input's file: at most 16 MiB, and no line that is refused
 
@@ -73,50 +92,99 @@ cause_view cause.TooLong = TooLong
 cause_view cause.BadPair = BadPair
 
 -- an input has its file, of at most 16 MiB, and no line of it is refused
-pub record IsInputFile (told : Told) (input : groups.Input) (file : List ℕ) (text : List ℕ) : Type 0 where
-  pub is_file : IsFile told file 16777216 text
+pub record IsInputFile (reading : Reading) (input : groups.Input) (file : List ℕ) (text : List ℕ) : Type 0 where
+  -- the bytes of the file are read
+  pub is_file : reading file 16777216 (Ok text)
+  -- no line is refused
   pub accepted : first_refused input ≡ None
 
 -- what an operator reads: an input its file, and another nothing
-abbrev pub IsInputOf : Told → Role → Option groups.Input → Type 0
-IsInputOf told (Input kind file per_window) input = (text : List ℕ) × IsInputFile told (input_of kind per_window text) file text × (input ≡ Some (input_of kind per_window text))
-IsInputOf told (Inner kind) input = input ≡ None
-IsInputOf told Sink input = input ≡ None
+abbrev pub IsInputOf : Reading → Role → Option groups.Input → Type 0
+IsInputOf reading (Input kind file per_window) input =
+    (text : List ℕ)
+    × IsInputFile reading (input_of kind per_window text) file text
+    × (input ≡ Some (input_of kind per_window text))
+IsInputOf reading (Inner kind) input = input ≡ None
+IsInputOf reading Sink input = input ≡ None
 
 -- the first refused line of an input
 abbrev pub IsLineRefusal : groups.Input → List ℕ → Refusal → Type 0
-IsLineRefusal input name (RefusedLine file line cause) = (file ≡ name) × (first_refused input ≡ Some (record { line = line; cause = cause_view cause }))
+IsLineRefusal input name (RefusedLine file line cause) =
+    (file ≡ name) × (first_refused input ≡ Some (record { line = line; cause = cause_view cause }))
 IsLineRefusal input name _ = ⊥
 
 -- the first thing that is refused of an input
-abbrev pub IsInputRefusal : Told → Role → Refusal → Type 0
-IsInputRefusal told (Input kind file per_window) refusal = IsFileRefusal told file 16777216 refusal ⊎ ((text : List ℕ) × IsFile told file 16777216 text × IsLineRefusal (input_of kind per_window text) file refusal)
-IsInputRefusal told (Inner kind) refusal = ⊥
-IsInputRefusal told Sink refusal = ⊥
+abbrev pub IsInputRefusal : Reading → Role → Refusal → Type 0
+IsInputRefusal reading (Input kind file per_window) refusal =
+    IsFileRefusal reading file 16777216 refusal
+    ⊎ ((text : List ℕ) × reading file 16777216 (Ok text) × IsLineRefusal (input_of kind per_window text) file refusal)
+IsInputRefusal reading (Inner kind) refusal = ⊥
+IsInputRefusal reading Sink refusal = ⊥
 
--- the inputs of all operators, in the order of the file
-abbrev pub AreInputs : Told → List Node → List (Option groups.Input) → Type 0
-AreInputs told [] [] = ⊤
-AreInputs told [] (input ∷ inputs) = ⊥
-AreInputs told (node ∷ nodes) [] = ⊥
-AreInputs told (node ∷ nodes) (input ∷ inputs) = IsInputOf told node.role input × AreInputs told nodes inputs
+-- what each operator reads, in the order of the file
+abbrev pub AreRead : Reading → List Node → List (Option groups.Input) → Type 0
+AreRead reading [] [] = ⊤
+AreRead reading [] (input ∷ inputs) = ⊥
+AreRead reading (node ∷ nodes) [] = ⊥
+AreRead reading (node ∷ nodes) (input ∷ inputs) = IsInputOf reading node.role input × AreRead reading nodes inputs
+
+-- what the inputs read, in the order of the file, without a place for the other operators
+pub record AreInputs (reading : Reading) (nodes : List Node) (inputs : List groups.Input) : Type 0 where
+  -- what each operator reads
+  pub each : List (Option groups.Input)
+  -- it is read of its file
+  pub read : AreRead reading nodes each
+  -- those that read anything
+  pub are : inputs ≡ filter_map (λ input. input) each
 
 -- the first operator whose input is refused, those before it being accepted
-abbrev pub IsInputsRefusal : Told → List Node → Refusal → Type 0
-IsInputsRefusal told [] refusal = ⊥
-IsInputsRefusal told (node ∷ nodes) refusal = IsInputRefusal told node.role refusal ⊎ (((input : Option groups.Input) × IsInputOf told node.role input) × IsInputsRefusal told nodes refusal)
+abbrev pub IsInputsRefusal : Reading → List Node → Refusal → Type 0
+IsInputsRefusal reading [] refusal = ⊥
+IsInputsRefusal reading (node ∷ nodes) refusal =
+    IsInputRefusal reading node.role refusal
+    ⊎ (((input : Option groups.Input) × IsInputOf reading node.role input) × IsInputsRefusal reading nodes refusal)
+
+-- ---- an application with its inputs
+
+-- the application in a file and the files of its inputs are accepted, and this is their dataflow
+pub record IsAcceptedRun (reading : Reading) (name : List ℕ) (flow : Dataflow) : Type 0 where
+  -- the application is accepted
+  pub application : IsApplication reading name flow.nodes
+  -- its inputs are
+  pub inputs : AreInputs reading flow.nodes flow.inputs
+
+-- the application is refused, or else the first input that is
+abbrev pub IsRunRefusal : Reading → List ℕ → Refusal → Type 0
+IsRunRefusal reading name refusal =
+    IsApplicationRefusal reading name refusal
+    ⊎ ((nodes : List Node) × IsApplication reading name nodes × IsInputsRefusal reading nodes refusal)
 
 -- ---- words and files
 
--- the words are those of a run, and this is its dataflow
-pub record IsDataflow (words : List (List ℕ)) (told : Told) (flow : Dataflow) : Type 0 where
-  pub name : List ℕ
-  pub command : command_of words ≡ Some (Sim, name)
-  pub application : IsApplication told name flow.nodes
-  pub inputs : AreInputs told flow.nodes flow.inputs
+-- what a command needs of its application's file is accepted: the application, and its inputs where it reads them
+abbrev pub IsAcceptedBy : Reading → Bool → List ℕ → Type 0
+IsAcceptedBy reading false name = (nodes : List Node) × IsApplication reading name nodes
+IsAcceptedBy reading true name = (flow : Dataflow) × IsAcceptedRun reading name flow
 
--- the first refusal: the words, then the application, then each input
-pub data IsRefusal (words : List (List ℕ)) (told : Told) : Refusal → Type 0 where
-  of_words : command_of words ≡ None → IsRefusal words told NotACommand
-  of_application : (action : Action) (name : List ℕ) (refusal : Refusal) → command_of words ≡ Some (action, name) → IsApplicationRefusal told name refusal → IsRefusal words told refusal
-  of_inputs : (name : List ℕ) (nodes : List Node) (refusal : Refusal) → command_of words ≡ Some (Sim, name) → IsApplication told name nodes → IsInputsRefusal told nodes refusal → IsRefusal words told refusal
+-- what is refused of it first
+abbrev pub IsRefusedBy : Reading → Bool → List ℕ → Refusal → Type 0
+IsRefusedBy reading false = IsApplicationRefusal reading
+IsRefusedBy reading true = IsRunRefusal reading
+
+-- the words are a command, and the files that it needs are accepted
+pub record AreAccepted (reading : Reading) (words : List (List ℕ)) : Type 0 where
+  -- what the command does
+  pub action : Action
+  -- its application's file
+  pub name : List ℕ
+  -- the words are this command
+  pub command : command_of words ≡ Some (action, name)
+  -- its files are accepted
+  pub files : IsAcceptedBy reading (reads_inputs action) name
+
+-- the first refusal: the words are no command, or the command's files are refused
+pub data IsRefusal (reading : Reading) (words : List (List ℕ)) : Refusal → Type 0 where
+  of_words : command_of words ≡ None → IsRefusal reading words NotACommand
+  of_files :
+    (action : Action) (name : List ℕ) (refusal : Refusal) → command_of words ≡ Some (action, name) →
+    IsRefusedBy reading (reads_inputs action) name refusal → IsRefusal reading words refusal

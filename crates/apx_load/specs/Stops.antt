@@ -1,23 +1,55 @@
--- Why reading a run's files stops.
-use Rattle.std.specs.Prelude.{Bool, IsTrue, ⊤}
+-- Why a run stops, and when it may.
+use Rattle.std.specs.Prelude.{◌≡◌, ℕ, List, ⊤}
 use Rattle.apx_json.specs.declared.refusal.JsonRefusal.{JsonRefusal}
 use Rattle.apx_json.specs.declared.refusal.JsonRefusal.TheVariants as json
 use Rattle.apx_dag.specs.declared.refusal.AppRefusal.{AppRefusal}
 use Rattle.apx_dag.specs.declared.refusal.AppRefusal.TheVariants as graph
+use Rattle.apx_device.specs.declared.folder.ReadRefusal.{ReadRefusal}
+use Rattle.apx_device.specs.declared.folder.ReadRefusal.TheVariants as read
+use Rattle.apx_device.specs.declared.folder.ReadRefusal.TheVariants.{Absent, TooLong, Failed}
+use Rattle.apx_device.specs.Folder.{Answer, StopsAt}
 use Rattle.apx_load.specs.declared.refusal.Refusal.{Refusal}
-use Rattle.apx_load.specs.declared.refusal.Refusal.TheVariants.{NoJson, WrongShape, BrokenRule}
+use Rattle.apx_load.specs.declared.refusal.Refusal.TheVariants.{NoFile, FileTooLong, NoJson, WrongShape, BrokenRule}
 use Rattle.apx_load.specs.declared.stop.Stop.{Stop}
 use Rattle.apx_load.specs.declared.stop.Stop.TheVariants.{Refused, CannotRead, StoreFailed, OutputFailed, Memory, Large}
 
--- A refusal is one of these where the folder tells its files; a failed read comes only where the folder's
--- count rose; want of memory has no cause; and nothing else stops it.
-abbrev pub IsLoadStop : Bool → (Refusal → Type 0) → Type 0 → Stop → Type 0
-IsLoadStop tells refuses rose (Refused refusal) = IsTrue tells → refuses refusal
-IsLoadStop tells refuses rose (CannotRead name) = rose
-IsLoadStop tells refuses rose Memory = ⊤
-IsLoadStop tells refuses rose StoreFailed = ⊥
-IsLoadStop tells refuses rose OutputFailed = ⊥
-IsLoadStop tells refuses rose Large = ⊥
+-- for each kind of stop, when it may come
+pub record Causes : Type 1 where
+  -- the words or a file may be refused so
+  pub refuses : Refusal → Type 0
+  -- the folder may have failed at the file of this name
+  pub unread : List ℕ → Type 0
+  -- the sink's store may have failed
+  pub store : Type 0
+  -- the output may have failed
+  pub output : Type 0
+  -- a bag or a state may be too large
+  pub large : Type 0
+
+-- the table of stops: a stop has its cause, and want of memory needs none
+abbrev pub IsCaused : Causes → Stop → Type 0
+IsCaused causes (Refused refusal) = causes.refuses refusal
+IsCaused causes (CannotRead name) = causes.unread name
+IsCaused causes StoreFailed = causes.store
+IsCaused causes OutputFailed = causes.output
+IsCaused causes Large = causes.large
+IsCaused causes Memory = ⊤
+
+-- nothing may come, but for want of memory
+abbrev pub no_causes : Causes
+no_causes = record { refuses = λ refusal. ⊥; unread = λ name. ⊥; store = ⊥; output = ⊥; large = ⊥ }
+
+-- a stop at a file of this name, by why it wasn't read
+abbrev pub IsUnread : List ℕ → ReadRefusal → Stop → Type 0
+IsUnread name Absent = IsCaused (record no_causes { refuses = λ refusal. refusal ≡ NoFile name })
+IsUnread name TooLong = IsCaused (record no_causes { refuses = λ refusal. refusal ≡ FileTooLong name })
+IsUnread name Failed = IsCaused (record no_causes { unread = λ file. file ≡ name })
+IsUnread name read.Memory = IsCaused no_causes
+
+-- Reading files may stop at a refusal, and at a file whose read failed, where the folder's count of faults rose.
+abbrev pub reading_causes : (Refusal → Type 0) → List Answer → Type 0 → Causes
+reading_causes refuses answers rose =
+    record no_causes { refuses = refuses; unread = λ name. rose × StopsAt answers name Failed }
 
 -- ---- the stop for a refusal of an application's text or of its graph
 

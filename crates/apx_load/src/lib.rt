@@ -2,7 +2,7 @@
 //! thing that is refused.
 #![tactic(auto)]
 
-pub use load::{application, inputs, window_count};
+pub use load::{application, inputs, run, window_count};
 pub use refusal::{LineCause, Refusal};
 pub use stop::Stop;
 pub use words::{Action, command};

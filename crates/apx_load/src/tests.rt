@@ -89,14 +89,13 @@ fn a_run_is_read_from_its_files(rt: HostRuntime) -> Result<(), Fail> {
     let inputs = inputs(alloc, &mut files, &dag).map_err(|_| "refused")?;
     let mut counts = Vec::new(alloc);
     for input in inputs.iter() {
-        counts.push(input.as_ref().map(|windows| windows.count()))?;
+        counts.push(input.count())?;
     }
-    assert_eq!(rt;
-        counts.as_slice(),
-        [None, None, Some(3), Some(2)].as_slice()
-    );
+    assert_eq!(rt; counts.as_slice(), [3, 2].as_slice());
     assert_eq!(rt; window_count(&inputs), 3);
     assert_eq!(rt; window_count(&[]), 0);
+    let (dag, inputs) = run(alloc, &mut files, "app").map_err(|_| "refused")?;
+    assert_eq!(rt; (dag.len(), inputs.len(), window_count(&inputs)), (4, 2, 3));
     Ok(())
 }
 

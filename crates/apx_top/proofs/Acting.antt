@@ -1,109 +1,201 @@
--- What a command did is what the words asked for.
-use Rattle.std.proofs.Common.{◌≡◌, ℕ, inl, inr, List, [], sym, ap, ◌∙◌, subst, Bool, IsTrue, IfErr, OnOk, codes}
+-- What the end of a command says of words and files.
+use Rattle.std.proofs.Common.{◌≡◌, ℕ, ◌⊎◌, inl, inr, List, [], ◌∷◌, ◌++◌, length, Bool, true, false, refl, sym, ap, ◌∙◌, subst, IsTrue}
 use Rattle.std.specs.Prelude.{Result, Ok, Err, ⊤, Option, Some, None}
-use Rattle.apx_tuple.specs.declared.tuple.Tuple.{Tuple}
-use Rattle.apx_device.specs.Out.{GotFront}
+use Rattle.apx_device.specs.Folder.{Answer, AreTold}
+use Rattle.apx_pass.specs.Large.{IsLargeDataflow}
+use Rattle.apx_pass.specs.Graph.{Role, Input, Inner, Sink, Node}
+use Rattle.apx_pass.specs.Pass.{Dataflow}
 use Rattle.apx_load.specs.declared.stop.Stop.{Stop}
 use Rattle.apx_load.specs.declared.stop.Stop.TheVariants.{Refused, CannotRead, StoreFailed, OutputFailed, Memory, Large}
 use Rattle.apx_load.specs.declared.refusal.Refusal.{Refusal}
-use Rattle.apx_load.specs.declared.words.Action.{Action}
+use Rattle.apx_load.specs.declared.refusal.Refusal.TheVariants.{NotACommand, NoFile, FileTooLong, NoJson, WrongShape, BrokenRule, RefusedLine}
 use Rattle.apx_load.specs.declared.words.Action.TheVariants.{Check, Sim}
-use Rattle.apx_load.specs.Refusals.{Told, IsApplicationRefusal, IsDataflow, IsRefusal, of_words, of_application, of_inputs}
-use Rattle.apx_load.proofs.Unique.{application-or-refusal, refusal-unique, dataflow-or-refusal, dataflow-unique}
-use Rattle.apx_pass.specs.Large.{IsLargeDataflow}
-use Rattle.apx_pass.specs.Pass.{Dataflow}
+use Rattle.apx_load.specs.Refusals.{Reading, by_answers, by_files, IsFileRefusal, IsTextRefusal, IsApplication, IsApplicationRefusal, IsInputRefusal, IsInputsRefusal, IsAcceptedRun, IsRunRefusal, AreAccepted, IsRefusal, of_words, of_files}
+use Rattle.apx_load.specs.Stops.{Causes, IsCaused, no_causes, reading_causes}
 use Rattle.apx_load.specs.Words.{command_of}
-use Rattle.apx_top.specs.Run.{HasRun, HasLeft, IsAcceptedRun, IsSimStop}
-use Rattle.apx_top.specs.Plain.{HasChecked, IsCheckStop, IsAcceptedBy, of_check, of_sim, IsStop, IsEnd, HasRefused, IsComplete, HasDone, HasStopped, checked, ran, checking, running}
+use Rattle.apx_load.proofs.Readings.{by-told, of-accepted, of-refusal, of-run}
+use Rattle.apx_load.proofs.Stopping.{AreWeaker, caused_weaker}
+use Rattle.apx_load.proofs.Unique.{refusal-unique, accepted-or-refused}
+use Rattle.apx_top.specs.Changes.{StoreChange, OutputChange}
+use Rattle.apx_top.specs.Store.{storing_causes}
+use Rattle.apx_top.specs.Run.{HasRunTo, HasPassedTo, printing_causes, stopped_reading, passed}
+use Rattle.apx_top.specs.Plain.{checking_causes, LeavesOf, HasCheckedTo, HasEnded, no_command, checked, ran, HasRefused, IsLargeRun, IsComplete}
 
-module _ (words : List (List ℕ)) (told : Told) (name : List ℕ) where
-  module _ (files_tell tells : Bool) (store_before store_after : List (List Tuple)) (out_before out_after : List ℕ) where
-    pub check-done : command_of words ≡ Some (Check, name) → store_after ≡ store_before → (r : Result ⊤ Stop) → OnOk r (HasChecked files_tell told name tells out_before out_after) → OnOk r (HasDone words files_tell told tells store_before store_after out_before out_after)
-    check-done command same (Ok v) done = checked name command done same
-    check-done command same (Err stop) done = tt
+-- what can stop a command at all: a refusal of its words and files; a file that can't be read; a fault of the store or of
+-- the output, once words and files were accepted; or a dataflow that is too large
+abbrev pub ending_causes : Reading → List (List ℕ) → (folder store output : Type 0) → Causes
+ending_causes reading words folder store output = record {
+  refuses = IsRefusal reading words;
+  unread = λ name. folder;
+  store = store × AreAccepted reading words;
+  output = output × AreAccepted reading words;
+  large = IsLargeRun reading words;
+}
 
-    pub check-left : command_of words ≡ Some (Check, name) → store_after ≡ store_before → (r : Result ⊤ Stop) → IfErr r (λ _. IsTrue tells → GotFront (codes "ok\n") out_before out_after) → IfErr r (HasStopped words files_tell told tells store_before store_after out_before out_after)
-    check-left command same (Ok v) left = tt
-    check-left command same (Err stop) left = checking name command left same
+-- an end without a stop is that of accepted words and files
+abbrev pub HasCause : Reading → List (List ℕ) → (folder store output : Type 0) → Result ⊤ Stop → Type 0
+HasCause reading words folder store output (Ok _) = AreAccepted reading words
+HasCause reading words folder store output (Err stop) = IsCaused (ending_causes reading words folder store output) stop
 
-    pub sim-done : command_of words ≡ Some (Sim, name) → (r : Result ⊤ Stop) → OnOk r (HasRun files_tell told name tells store_before store_after out_before out_after) → OnOk r (HasDone words files_tell told tells store_before store_after out_before out_after)
-    sim-done command (Ok v) done = ran name command done
-    sim-done command (Err stop) done = tt
+-- ---- reading leaves nothing
 
-    pub sim-left : command_of words ≡ Some (Sim, name) → (r : Result ⊤ Stop) → IfErr r (HasLeft files_tell told name tells store_before store_after out_before out_after) → IfErr r (HasStopped words files_tell told tells store_before store_after out_before out_after)
-    sim-left command (Ok v) left = tt
-    sim-left command (Err stop) left = running name command left
+-- a stop of reading leaves nothing of the output
+pub unwritten : (text : List ℕ) (output : OutputChange) (refuses : Refusal → Type 0) (answers : List Answer) (folder : Type 0) (stop : Stop) → IsCaused (reading_causes refuses answers folder) stop → output.after ≡ output.before → LeavesOf text output stop
+unwritten text output refuses answers folder (Refused refusal) is same = same
+unwritten text output refuses answers folder (CannotRead name) is same = same
+unwritten text output refuses answers folder StoreFailed is same = same
+unwritten text output refuses answers folder OutputFailed is same = absurd is
+unwritten text output refuses answers folder Memory is same = same
+unwritten text output refuses answers folder Large is same = same
 
-  module _ (tells : Bool) (folder store output : Type 0) where
-    check-cause : command_of words ≡ Some (Check, name) → (stop : Stop) → IsCheckStop tells told name folder output stop → IsStop words tells told folder store output stop
-    check-cause command (Refused refusal) is = λ t. of_application Check name refusal command (is t)
-    check-cause command (CannotRead file) is = is
-    check-cause command StoreFailed is = absurd is
-    check-cause command OutputFailed is = (is.0, λ t. let found = is.1 t in of_check name found.0 command found.1)
-    check-cause command Memory is = tt
-    check-cause command Large is = absurd is
+-- a stop of reading is one of judging
+pub check-cause : (name : List ℕ) (answers : List Answer) (folder output : Type 0) (stop : Stop) → IsCaused (reading_causes (IsApplicationRefusal (by_answers answers) name) answers folder) stop → IsCaused (checking_causes name answers folder output) stop
+check-cause name answers folder output stop is =
+    caused_weaker _ _ stop (record { refuses = λ refusal r. r; unread = λ file r. r; store = λ none. none; output = λ none. absurd none; large = λ none. none }) is
 
-    pub check-end : command_of words ≡ Some (Check, name) → (output_tells : Bool) (out_before out_after : List ℕ) (r : Result ⊤ Stop) → OnOk r (HasChecked tells told name output_tells out_before out_after) → IfErr r (IsCheckStop tells told name folder output) → IsEnd words tells told folder store output r
-    check-end command output_tells out_before out_after (Ok v) done is = λ t. let found = done.accepted t in of_check name found.0 command found.1
-    check-end command output_tells out_before out_after (Err stop) done is = check-cause command stop is
+-- ---- no refusal of a file is one of words
 
-    dataflow-of : command_of words ≡ Some (Sim, name) → (flow : Dataflow) → IsAcceptedRun told name flow → IsDataflow words told flow
-    dataflow-of command flow accepted = record { name = name; command = command; application = accepted.application; inputs = accepted.inputs }
+file_apart : (reading : Reading) (name : List ℕ) (limit : ℕ) → IsFileRefusal reading name limit NotACommand → ⊥
+file_apart reading name limit is = is
 
-    sim-cause : command_of words ≡ Some (Sim, name) → (stop : Stop) → IsSimStop tells told name folder store output stop → IsStop words tells told folder store output stop
-    sim-cause command (Refused refusal) is = λ t. elim (is t) [
-      | inl application ↦ of_application Sim name refusal command application
-      | inr inputs ↦ of_inputs name inputs.0.nodes refusal command inputs.1 inputs.2
-    ]
-    sim-cause command (CannotRead file) is = is
-    sim-cause command StoreFailed is = (is.0, λ t. let found = is.1 t in of_sim found.0 (dataflow-of command found.0 found.1))
-    sim-cause command OutputFailed is = (is.0, λ t. let found = is.1 t in of_sim found.0 (dataflow-of command found.0 found.1))
-    sim-cause command Memory is = tt
-    sim-cause command Large is = λ t. let found = is t in (found.0, dataflow-of command found.0 found.1, found.2)
+input_apart : (reading : Reading) (role : Role) → IsInputRefusal reading role NotACommand → ⊥
+input_apart reading (Input kind file per_window) (inl is) = is
+input_apart reading (Input kind file per_window) (inr is) = is.2
+input_apart reading (Inner kind) is = is
+input_apart reading Sink is = is
 
-    pub sim-end : command_of words ≡ Some (Sim, name) → (r : Result ⊤ Stop) → (IsTrue tells → OnOk r ((flow : Dataflow) × IsAcceptedRun told name flow)) → IfErr r (IsSimStop tells told name folder store output) → IsEnd words tells told folder store output r
-    sim-end command (Ok v) accepted is = λ t. let found = accepted t in of_sim found.0 (dataflow-of command found.0 found.1)
-    sim-end command (Err stop) accepted is = sim-cause command stop is
+inputs_apart : (reading : Reading) (nodes : List Node) → IsInputsRefusal reading nodes NotACommand → ⊥
+inputs_apart reading [] is = is
+inputs_apart reading (node ∷ nodes) (inl here) = input_apart reading node.role here
+inputs_apart reading (node ∷ nodes) (inr there) = inputs_apart reading nodes there.1
 
--- ---- what the cause of an end says of refused and of accepted words and files
+application_apart : (reading : Reading) (name : List ℕ) → IsApplicationRefusal reading name NotACommand → ⊥
+application_apart reading name (inl is) = is
+application_apart reading name (inr is) = is.2
 
-module _ (words : List (List ℕ)) (told : Told) where
-  apart : (r : Refusal) → IsAcceptedBy words told → IsRefusal words told r → ⊥
-  apart r (of_sim flow is) refused = dataflow-or-refusal words told flow r is refused
-  apart r (of_check name nodes command is) (of_words none) = cc
-  apart r (of_check name nodes command is) (of_application action file refusal other refused) =
-      let same : Some (Check, name) ≡ Some (action, file) = sym command ∙ other in
-      let file_is : name ≡ file = ap named same in
-      application-or-refusal told name nodes refusal is (subst (λ (f : List ℕ). IsApplicationRefusal told f refusal) (sym file_is) refused)
-    where
-      named : Option (Action × List ℕ) → List ℕ
-      named (Some found) = found.1
-      named None = []
-  apart r (of_check name nodes command is) (of_inputs file more refusal other application refused) = subst IsCheckOf (sym command ∙ other) tt
-    where
-      IsCheckAction : Action → Type 0
-      IsCheckAction Check = ⊤
-      IsCheckAction Sim = ⊥
+run_apart : (reading : Reading) (name : List ℕ) → IsRunRefusal reading name NotACommand → ⊥
+run_apart reading name (inl is) = application_apart reading name is
+run_apart reading name (inr is) = inputs_apart reading is.0 is.2
 
-      IsCheckOf : Option (Action × List ℕ) → Type 0
-      IsCheckOf (Some found) = IsCheckAction found.0
-      IsCheckOf None = ⊥
+-- ---- the end of a command
 
-  module _ (tells : Bool) (folder store output : Type 0) (t : IsTrue tells) where
-    pub refused-of : (end : Result ⊤ Stop) → IsEnd words tells told folder store output end → (r : Refusal) → IsRefusal words told r → HasRefused folder r end
-    refused-of (Ok v) is r refused = apart r (is t) refused
-    refused-of (Err (Refused found)) is r refused = refusal-unique words told found r (is t) refused
-    refused-of (Err (CannotRead file)) is r refused = is
-    refused-of (Err StoreFailed) is r refused = apart r (is.1 t) refused
-    refused-of (Err OutputFailed) is r refused = apart r (is.1 t) refused
-    refused-of (Err Memory) is r refused = tt
-    refused-of (Err Large) is r refused = let found = is t in dataflow-or-refusal words told found.0 r found.1 refused
+module _ (words : List (List ℕ)) (answers : List Answer) (folder : Type 0) (store : StoreChange) (output : OutputChange) where
+  accepted : (name : List ℕ) (flow : Dataflow) → command_of words ≡ Some (Sim, name) → IsAcceptedRun (by_answers answers) name flow → AreAccepted (by_answers answers) words
+  accepted name flow command is = record { action = Sim; name = name; command = command; files = (flow, is) }
 
-    pub complete-of : (end : Result ⊤ Stop) → IsEnd words tells told folder store output end → (flow : Dataflow) → IsDataflow words told flow → (folder → ⊥) → (store → ⊥) → (output → ⊥) → IsComplete flow end
-    complete-of (Ok v) is flow accepted a b c = tt
-    complete-of (Err (Refused found)) is flow accepted a b c = dataflow-or-refusal words told flow found accepted (is t)
-    complete-of (Err (CannotRead file)) is flow accepted a b c = a is
-    complete-of (Err StoreFailed) is flow accepted a b c = b is.0
-    complete-of (Err OutputFailed) is flow accepted a b c = c is.0
-    complete-of (Err Memory) is flow accepted a b c = tt
-    complete-of (Err Large) is flow accepted a b c = let found = is t in subst IsLargeDataflow (dataflow-unique words told found.0 flow found.1 accepted) found.2
+  check_end : (name : List ℕ) (end : Result ⊤ Stop) → command_of words ≡ Some (Check, name) → HasCheckedTo name answers folder output end → HasCause (by_answers answers) words folder store.rose output.rose end
+  check_end name (Ok v) command is = record { action = Check; name = name; command = command; files = is.0 }
+  check_end name (Err stop) command is =
+      caused_weaker (checking_causes name answers folder output.rose) (ending_causes (by_answers answers) words folder store.rose output.rose) stop
+      (record {
+        refuses = λ refusal r. of_files Check name refusal command r;
+        unread = λ file r. r.0;
+        store = λ none. absurd none;
+        output = λ o. (o.0, record { action = Check; name = name; command = command; files = o.1 });
+        large = λ none. absurd none;
+      }) is.0
+
+  run_end : (name : List ℕ) (end : Result ⊤ Stop) → command_of words ≡ Some (Sim, name) → HasRunTo name answers folder store output end → HasCause (by_answers answers) words folder store.rose output.rose end
+  run_end name end command (stopped_reading stop is cause same unprinted) =
+      rw is (caused_weaker (reading_causes (IsRunRefusal (by_answers answers) name) answers folder) (ending_causes (by_answers answers) words folder store.rose output.rose) stop
+      (record {
+        refuses = λ refusal r. of_files Sim name refusal command r;
+        unread = λ file r. r.0;
+        store = λ none. absurd none;
+        output = λ none. absurd none;
+        large = λ none. absurd none;
+      }) cause)
+  run_end name (Ok v) command (passed flow is done) = accepted name flow command is
+  run_end name (Err stop) command (passed flow is (inl some)) =
+      caused_weaker (storing_causes flow store.rose) (ending_causes (by_answers answers) words folder store.rose output.rose) stop
+      (record {
+        refuses = λ refusal none. absurd none;
+        unread = λ file none. absurd none;
+        store = λ rose. (rose, accepted name flow command is);
+        output = λ none. absurd none;
+        large = λ large. record { name = name; command = command; flow = flow; accepted = is; large = large };
+      }) some.cause
+  run_end name (Err stop) command (passed flow is (inr some)) =
+      caused_weaker (printing_causes store.rose output.rose) (ending_causes (by_answers answers) words folder store.rose output.rose) stop
+      (record {
+        refuses = λ refusal none. absurd none;
+        unread = λ file none. absurd none;
+        store = λ rose. (rose, accepted name flow command is);
+        output = λ rose. (rose, accepted name flow command is);
+        large = λ none. absurd none;
+      }) some.cause
+
+  end_cause : (end : Result ⊤ Stop) → HasEnded words answers folder store output end → HasCause (by_answers answers) words folder store.rose output.rose end
+  end_cause end (no_command none is read same unprinted) = rw is (of_words none)
+  end_cause end (checked name command one same is) = check_end name end command is
+  end_cause end (ran name command is) = run_end name end command is
+
+  -- ---- what is said of the words alone
+
+  -- words that are no command are told so
+  pub words-refused : (end : Result ⊤ Stop) → HasEnded words answers folder store output end → command_of words ≡ None → end ≡ Err (Refused NotACommand)
+  words-refused end (no_command none is read same unprinted) words_are = is
+  words-refused end (checked name command one same is) words_are = cc
+  words-refused end (ran name command is) words_are = cc
+
+  apart : (r : Refusal) → IsRefusal (by_answers answers) words r → r ≡ NotACommand → command_of words ≡ None
+  apart r (of_words none) e = none
+  apart r (of_files Check name refusal command is) e = absurd (application_apart (by_answers answers) name (subst (IsApplicationRefusal (by_answers answers) name) e is))
+  apart r (of_files Sim name refusal command is) e = absurd (run_apart (by_answers answers) name (subst (IsRunRefusal (by_answers answers) name) e is))
+
+  -- and no others
+  pub refused-words : (end : Result ⊤ Stop) → HasEnded words answers folder store output end → end ≡ Err (Refused NotACommand) → command_of words ≡ None
+  refused-words end ended e = apart NotACommand (subst (HasCause (by_answers answers) words folder store.rose output.rose) e (end_cause end ended)) refl
+
+  -- ---- what is said of told files
+
+  module _ (files : List ℕ → Option (List ℕ)) (told : AreTold files answers) where
+    told_accepted : AreAccepted (by_answers answers) words → AreAccepted (by_files files) words
+    told_accepted is = of-accepted (by_answers answers) (by_files files) (by-told files answers told) words is
+
+    told_refusal : (r : Refusal) → IsRefusal (by_answers answers) words r → IsRefusal (by_files files) words r
+    told_refusal r is = of-refusal (by_answers answers) (by_files files) (by-told files answers told) words r is
+
+    told_large : IsLargeRun (by_answers answers) words → IsLargeRun (by_files files) words
+    told_large is = record {
+      name = is.name;
+      command = is.command;
+      flow = is.flow;
+      accepted = of-run (by_answers answers) (by_files files) (by-told files answers told) is.name is.flow is.accepted;
+      large = is.large;
+    }
+
+    large_accepted : IsLargeRun (by_files files) words → AreAccepted (by_files files) words
+    large_accepted is = record { action = Sim; name = is.name; command = is.command; files = (is.flow, is.accepted) }
+
+    refused_by_cause : (end : Result ⊤ Stop) (r : Refusal) → IsRefusal (by_files files) words r → HasCause (by_answers answers) words folder store.rose output.rose end → HasRefused folder r end
+    refused_by_cause (Ok v) r is cause = accepted-or-refused files words r (told_accepted cause) is
+    refused_by_cause (Err stop) r is cause =
+        caused_weaker (ending_causes (by_answers answers) words folder store.rose output.rose) (record no_causes { refuses = λ found. found ≡ r; unread = λ name. folder }) stop
+        (record {
+          refuses = λ found refused. refusal-unique files words found r (told_refusal found refused) is;
+          unread = λ name rose. rose;
+          store = λ s. accepted-or-refused files words r (told_accepted s.1) is;
+          output = λ o. accepted-or-refused files words r (told_accepted o.1) is;
+          large = λ large. accepted-or-refused files words r (large_accepted (told_large large)) is;
+        }) cause
+
+    -- what is refused first is refused
+    pub refused-of : (end : Result ⊤ Stop) → HasEnded words answers folder store output end → (r : Refusal) → IsRefusal (by_files files) words r → HasRefused folder r end
+    refused-of end ended r is = refused_by_cause end r is (end_cause end ended)
+
+    complete_by_cause : (end : Result ⊤ Stop) → AreAccepted (by_files files) words → (folder → ⊥) → (store.rose → ⊥) → (output.rose → ⊥) → HasCause (by_answers answers) words folder store.rose output.rose end → IsComplete (IsLargeRun (by_files files) words) end
+    complete_by_cause (Ok v) are f s o cause = tt
+    complete_by_cause (Err stop) are f s o cause =
+        caused_weaker (ending_causes (by_answers answers) words folder store.rose output.rose) (record no_causes { large = IsLargeRun (by_files files) words }) stop
+        (record {
+          refuses = λ found refused. accepted-or-refused files words found are (told_refusal found refused);
+          unread = λ name rose. f rose;
+          store = λ rose. s rose.0;
+          output = λ rose. o rose.0;
+          large = told_large;
+        }) cause
+
+    -- what is accepted is done, unless a device fails
+    pub complete-of : (end : Result ⊤ Stop) → HasEnded words answers folder store output end → AreAccepted (by_files files) words → (folder → ⊥) → (store.rose → ⊥) → (output.rose → ⊥) → IsComplete (IsLargeRun (by_files files) words) end
+    complete-of end ended are f s o = complete_by_cause end are f s o (end_cause end ended)

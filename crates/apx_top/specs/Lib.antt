@@ -1,7 +1,7 @@
 pub mod Lines
 pub mod Loop
 pub mod Plain
-pub mod Print
+pub mod Changes
 pub mod Run
 pub mod Sent
 pub mod Store

@@ -5,5 +5,7 @@ use Rattle.apx_pass.specs.Pass.{Dataflow, windows, mean_up_to}
 
 -- the store holds the rows of exactly so many first windows
 pub record HoldsFirst (flow : Dataflow) (last : ℕ) (stored : List (List Tuple)) : Type 0 where
+  -- no more than there are
   pub within : last ≤ windows flow
+  -- their rows
   pub is : stored ≡ mean_up_to flow last

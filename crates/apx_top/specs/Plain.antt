@@ -1,89 +1,86 @@
--- How the program ends, by its words and the files of its folder.
-use Rattle.std.specs.Prelude.{◌≡◌, ℕ, ◌⊎◌, Bool, IsTrue, List, [], ◌++◌, Some, None, Result, Ok, Err, codes, ⊤}
-use Rattle.apx_tuple.specs.declared.tuple.Tuple.{Tuple}
+-- How the program ends, by its words and by what its folder answered.
+use Rattle.std.specs.Prelude.{◌≡◌, ℕ, ◌⊎◌, Bool, IsTrue, List, [], ◌++◌, length, Some, None, Result, Ok, Err, codes, ⊤}
+use Rattle.apx_device.specs.Folder.{Answer}
 use Rattle.apx_device.specs.Out.{GotFront}
 use Rattle.apx_pass.specs.Graph.{Node}
 use Rattle.apx_pass.specs.Large.{IsLargeDataflow}
 use Rattle.apx_pass.specs.Pass.{Dataflow}
 use Rattle.apx_load.specs.declared.stop.Stop.{Stop}
-use Rattle.apx_load.specs.declared.stop.Stop.TheVariants.{Refused, CannotRead, StoreFailed, OutputFailed, Memory, Large}
+use Rattle.apx_load.specs.declared.stop.Stop.TheVariants.{Refused, OutputFailed}
 use Rattle.apx_load.specs.declared.refusal.Refusal.{Refusal}
 use Rattle.apx_load.specs.declared.refusal.Refusal.TheVariants.{NotACommand}
 use Rattle.apx_load.specs.declared.words.Action.TheVariants.{Check, Sim}
-use Rattle.apx_load.specs.Refusals.{Told, IsApplication, IsApplicationRefusal, IsRefusal, IsDataflow}
+use Rattle.apx_load.specs.Refusals.{Reading, by_answers, IsApplication, IsApplicationRefusal, IsAcceptedRun}
+use Rattle.apx_load.specs.Stops.{Causes, IsCaused, no_causes, reading_causes}
 use Rattle.apx_load.specs.Words.{command_of}
+use Rattle.apx_top.specs.Changes.{StoreChange, OutputChange}
 use Rattle.apx_top.specs.Lines.{status_of, line_of}
-use Rattle.apx_top.specs.Run.{HasRun, HasLeft}
+use Rattle.apx_top.specs.Run.{HasRun, HasRunTo}
 
 -- ---- judging an application
 
--- the application is accepted, and the output got `ok`
-pub record HasChecked (files_tell : Bool) (told : Told) (name : List ℕ) (tells : Bool) (out_before out_after : List ℕ) : Type 0 where
-  pub accepted : IsTrue files_tell → (nodes : List Node) × IsApplication told name nodes
-  pub printed : IsTrue tells → out_after ≡ out_before ++ codes "ok\n"
+-- what stops it: a refusal of its file, a file that can't be read, and an output that failed, once it was accepted
+abbrev pub checking_causes : List ℕ → List Answer → (folder output : Type 0) → Causes
+checking_causes name answers folder output =
+    record (reading_causes (IsApplicationRefusal (by_answers answers) name) answers folder)
+    { output = output × ((nodes : List Node) × IsApplication (by_answers answers) name nodes) }
 
--- what stops it: a refusal of the file, a fault of the folder or of the output, and want of memory
-abbrev pub IsCheckStop : Bool → Told → List ℕ → Type 0 → Type 0 → Stop → Type 0
-IsCheckStop tells told name folder output (Refused refusal) = IsTrue tells → IsApplicationRefusal told name refusal
-IsCheckStop tells told name folder output (CannotRead file) = folder
-IsCheckStop tells told name folder output StoreFailed = ⊥
-IsCheckStop tells told name folder output OutputFailed = output × (IsTrue tells → (nodes : List Node) × IsApplication told name nodes)
-IsCheckStop tells told name folder output Memory = ⊤
-IsCheckStop tells told name folder output Large = ⊥
+-- what a stop leaves of an output: a front of the text where the output failed, and else nothing
+abbrev pub LeavesOf : List ℕ → OutputChange → Stop → Type 0
+LeavesOf text output OutputFailed = IsTrue output.tells → GotFront text output.before output.after
+LeavesOf text output _ = output.after ≡ output.before
 
--- ---- both commands
+-- how judging an application ends: it is accepted and the output got `ok`, or it stopped and left no more than its stop says
+abbrev pub HasCheckedTo : List ℕ → List Answer → Type 0 → OutputChange → Result ⊤ Stop → Type 0
+HasCheckedTo name answers folder output (Ok _) =
+    ((nodes : List Node) × IsApplication (by_answers answers) name nodes)
+    × (IsTrue output.tells → output.after ≡ output.before ++ codes "ok\n")
+HasCheckedTo name answers folder output (Err stop) =
+    IsCaused (checking_causes name answers folder output.rose) stop × LeavesOf (codes "ok\n") output stop
 
--- the words and the files that they need are accepted
-pub data IsAcceptedBy (words : List (List ℕ)) (told : Told) : Type 0 where
-  of_check : (name : List ℕ) (nodes : List Node) → command_of words ≡ Some (Check, name) → IsApplication told name nodes → IsAcceptedBy words told
-  of_sim : (flow : Dataflow) → IsDataflow words told flow → IsAcceptedBy words told
+-- ---- all commands
 
--- The cause of a stop: the first refusal of the words and files, where the folder tells its files; a fault
--- of the folder, the store or the output, which then has counted it; a size of the dataflow; or want of memory.
--- The store and the output fail only after the words and files were accepted.
-abbrev pub IsStop : List (List ℕ) → Bool → Told → Type 0 → Type 0 → Type 0 → Stop → Type 0
-IsStop words tells told folder store output (Refused refusal) = IsTrue tells → IsRefusal words told refusal
-IsStop words tells told folder store output (CannotRead name) = folder
-IsStop words tells told folder store output StoreFailed = store × (IsTrue tells → IsAcceptedBy words told)
-IsStop words tells told folder store output OutputFailed = output × (IsTrue tells → IsAcceptedBy words told)
-IsStop words tells told folder store output Memory = ⊤
-IsStop words tells told folder store output Large = IsTrue tells → (flow : Dataflow) × IsDataflow words told flow × IsLargeDataflow flow
+-- How the program ends: the words are no command, and nothing is read or touched; or an application is judged by one read,
+-- and the store isn't touched; or it is run.
+pub data HasEnded (words : List (List ℕ)) (answers : List Answer) (folder : Type 0) (store : StoreChange) (output : OutputChange) (end : Result ⊤ Stop) : Type 0 where
+  no_command :
+    command_of words ≡ None → end ≡ Err (Refused NotACommand) →
+    answers ≡ [] → store.same → output.after ≡ output.before →
+    HasEnded words answers folder store output end
+  checked :
+    (name : List ℕ) → command_of words ≡ Some (Check, name) →
+    length answers ≡ 1 → store.same → HasCheckedTo name answers folder output end →
+    HasEnded words answers folder store output end
+  ran :
+    (name : List ℕ) → command_of words ≡ Some (Sim, name) →
+    HasRunTo name answers folder store output end →
+    HasEnded words answers folder store output end
 
--- an end has its cause: accepted words and files, or that of the stop
-abbrev pub IsEnd : List (List ℕ) → Bool → Told → Type 0 → Type 0 → Type 0 → Result ⊤ Stop → Type 0
-IsEnd words tells told folder store output (Ok _) = IsTrue tells → IsAcceptedBy words told
-IsEnd words tells told folder store output (Err stop) = IsStop words tells told folder store output stop
+-- ---- what is said of files that the folder tells
 
--- how it ends where this is refused: with that, a fault of the folder, or want of memory
+-- how it ends where this is refused: with that, with a fault of the folder, or for want of memory
 abbrev pub HasRefused : Type 0 → Refusal → Result ⊤ Stop → Type 0
 HasRefused folder refusal (Ok _) = ⊥
-HasRefused folder refusal (Err (Refused found)) = found ≡ refusal
-HasRefused folder refusal (Err (CannotRead name)) = folder
-HasRefused folder refusal (Err StoreFailed) = ⊥
-HasRefused folder refusal (Err OutputFailed) = ⊥
-HasRefused folder refusal (Err Memory) = ⊤
-HasRefused folder refusal (Err Large) = ⊥
+HasRefused folder refusal (Err stop) =
+    IsCaused (record no_causes { refuses = λ found. found ≡ refusal; unread = λ name. folder }) stop
 
--- how it ends where this dataflow is accepted and no device fails: it is done, too large, or short of memory
-abbrev pub IsComplete : Dataflow → Result ⊤ Stop → Type 0
-IsComplete flow (Ok _) = ⊤
-IsComplete flow (Err (Refused refusal)) = ⊥
-IsComplete flow (Err (CannotRead name)) = ⊥
-IsComplete flow (Err StoreFailed) = ⊥
-IsComplete flow (Err OutputFailed) = ⊥
-IsComplete flow (Err Memory) = ⊤
-IsComplete flow (Err Large) = IsLargeDataflow flow
+-- the words are those of a run whose dataflow is too large
+pub record IsLargeRun (reading : Reading) (words : List (List ℕ)) : Type 0 where
+  -- the application's file
+  pub name : List ℕ
+  -- the words name a run of it
+  pub command : command_of words ≡ Some (Sim, name)
+  -- its dataflow
+  pub flow : Dataflow
+  -- it is that of the files
+  pub accepted : IsAcceptedRun reading name flow
+  -- it is too large
+  pub large : IsLargeDataflow flow
 
--- all that the words ask for is done
-pub data HasDone (words : List (List ℕ)) (files_tell : Bool) (told : Told) (tells : Bool) (store_before store_after : List (List Tuple)) (out_before out_after : List ℕ) : Type 0 where
-  checked : (name : List ℕ) → command_of words ≡ Some (Check, name) → HasChecked files_tell told name tells out_before out_after → store_after ≡ store_before → HasDone words files_tell told tells store_before store_after out_before out_after
-  ran : (name : List ℕ) → command_of words ≡ Some (Sim, name) → HasRun files_tell told name tells store_before store_after out_before out_after → HasDone words files_tell told tells store_before store_after out_before out_after
-
--- what a stop leaves: the words are no command and nothing is touched; or a front of `ok`; or what the run leaves
-pub data HasStopped (words : List (List ℕ)) (files_tell : Bool) (told : Told) (tells : Bool) (store_before store_after : List (List Tuple)) (out_before out_after : List ℕ) (stop : Stop) : Type 0 where
-  no_command : command_of words ≡ None → stop ≡ Refused NotACommand → store_after ≡ store_before → out_after ≡ out_before → HasStopped words files_tell told tells store_before store_after out_before out_after stop
-  checking : (name : List ℕ) → command_of words ≡ Some (Check, name) → (IsTrue tells → GotFront (codes "ok\n") out_before out_after) → store_after ≡ store_before → HasStopped words files_tell told tells store_before store_after out_before out_after stop
-  running : (name : List ℕ) → command_of words ≡ Some (Sim, name) → HasLeft files_tell told name tells store_before store_after out_before out_after stop → HasStopped words files_tell told tells store_before store_after out_before out_after stop
+-- how it ends where words and files are accepted and no device fails: it is done, too large, or short of memory
+abbrev pub IsComplete : Type 0 → Result ⊤ Stop → Type 0
+IsComplete large (Ok _) = ⊤
+IsComplete large (Err stop) = IsCaused (record no_causes { large = large }) stop
 
 -- ---- the status and the line that says why
 
@@ -99,5 +96,7 @@ line_after (Err stop) = line_of stop
 
 -- the error output has got the line, or a front of it where its count rose
 pub record HasSaid (line : List ℕ) (rose : Type 0) (before now : List ℕ) : Type 0 where
+  -- it has got no more than a front of the line
   pub front : GotFront line before now
+  -- it has got the whole line, unless its count rose
   pub whole : rose ⊎ (now ≡ before ++ line)

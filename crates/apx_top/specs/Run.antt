@@ -1,52 +1,72 @@
 -- What a run leaves behind it.
-use Rattle.std.specs.Prelude.{◌≡◌, ℕ, ◌⊎◌, Bool, IsTrue, List, ◌++◌, ⊤}
-use Rattle.apx_tuple.specs.declared.tuple.Tuple.{Tuple}
+use Rattle.std.specs.Prelude.{◌≡◌, ◌⊎◌, ℕ, max, IsTrue, List, ◌++◌, Result, Ok, Err, ⊤}
+use Rattle.apx_device.specs.Folder.{Answer}
 use Rattle.apx_device.specs.Out.{GotFront}
-use Rattle.apx_pass.specs.Large.{IsLargeDataflow}
-use Rattle.apx_pass.specs.Pass.{Dataflow, mean}
+use Rattle.apx_pass.specs.Pass.{Dataflow, windows, mean}
 use Rattle.apx_pass.specs.Texts.{windows_text}
-use Rattle.apx_load.specs.declared.refusal.Refusal.{Refusal}
 use Rattle.apx_load.specs.declared.stop.Stop.{Stop}
-use Rattle.apx_load.specs.declared.stop.Stop.TheVariants.{Refused, CannotRead, StoreFailed, OutputFailed, Memory, Large}
-use Rattle.apx_load.specs.Refusals.{Told, IsApplication, IsApplicationRefusal, AreInputs, IsInputsRefusal}
-use Rattle.apx_top.specs.Print.{IsPrintStop}
-use Rattle.apx_top.specs.Store.{HoldsPrefix}
-
--- the application in a file and the files of its inputs are accepted, and this is their dataflow
-pub record IsAcceptedRun (told : Told) (name : List ℕ) (flow : Dataflow) : Type 0 where
-  pub application : IsApplication told name flow.nodes
-  pub inputs : AreInputs told flow.nodes flow.inputs
-
--- the application is refused, or else the first input that is
-abbrev pub IsFilesRefusal : Told → List ℕ → Refusal → Type 0
-IsFilesRefusal told name refusal = IsApplicationRefusal told name refusal ⊎ ((flow : Dataflow) × IsApplication told name flow.nodes × IsInputsRefusal told flow.nodes refusal)
-
--- The cause of a stop: a refusal of a file that the folder tells; a fault of the folder, the store or the
--- output, which then has counted it; a size of the dataflow; or want of memory, which has no cause. The store and
--- the output fail only after all files were accepted.
-abbrev pub IsSimStop : Bool → Told → List ℕ → Type 0 → Type 0 → Type 0 → Stop → Type 0
-IsSimStop tells told name folder store output (Refused refusal) = IsTrue tells → IsFilesRefusal told name refusal
-IsSimStop tells told name folder store output (CannotRead file) = folder
-IsSimStop tells told name folder store output StoreFailed = store × (IsTrue tells → (flow : Dataflow) × IsAcceptedRun told name flow)
-IsSimStop tells told name folder store output OutputFailed = output × (IsTrue tells → (flow : Dataflow) × IsAcceptedRun told name flow)
-IsSimStop tells told name folder store output Memory = ⊤
-IsSimStop tells told name folder store output Large = IsTrue tells → (flow : Dataflow) × IsAcceptedRun told name flow × IsLargeDataflow flow
+use Rattle.apx_load.specs.Refusals.{by_answers, IsAcceptedRun, IsRunRefusal}
+use Rattle.apx_load.specs.Stops.{Causes, IsCaused, no_causes, reading_causes}
+use Rattle.apx_top.specs.Changes.{StoreChange, OutputChange}
+use Rattle.apx_top.specs.Store.{HoldsPrefix, storing_causes}
 
 -- the texts of the dataflow's windows
 abbrev pub run_text : Dataflow → List ℕ
 run_text flow = windows_text 1000000000 1 (mean flow)
 
--- A run that was done: its dataflow's windows are stored and printed, where the store began with the first of
--- them. The dataflow is that of the files, where the folder tells its files.
-pub record HasRun (files_tell : Bool) (told : Told) (name : List ℕ) (tells : Bool) (store_before store_after : List (List Tuple)) (out_before out_after : List ℕ) : Type 0 where
-  pub flow : Dataflow
-  pub accepted : IsTrue files_tell → IsAcceptedRun told name flow
-  pub stored : HoldsPrefix flow store_before → store_after ≡ mean flow
-  pub printed : IsTrue tells → HoldsPrefix flow store_before → out_after ≡ out_before ++ run_text flow
+-- All windows of the dataflow are stored, where the store began with the first of them.
+pub record HasStored (flow : Dataflow) (store : StoreChange) : Type 0 where
+  -- the last window is that of the dataflow, or a later one that the store began with
+  pub last : store.last_after ≡ max store.last_before (windows flow)
+  -- a store that tells, and that began with first windows of the dataflow, holds what the one pass gives
+  pub stored : IsTrue store.tells → HoldsPrefix flow store.before → store.after ≡ mean flow
 
--- A run that stopped: before it touched anything; while it stored, with nothing printed; or while it
--- printed, with all stored and a front of the text printed, by one of three causes.
-pub data HasLeft (files_tell : Bool) (told : Told) (name : List ℕ) (tells : Bool) (store_before store_after : List (List Tuple)) (out_before out_after : List ℕ) (stop : Stop) : Type 0 where
-  untouched : store_after ≡ store_before → out_after ≡ out_before → HasLeft files_tell told name tells store_before store_after out_before out_after stop
-  storing : (flow : Dataflow) → (IsTrue files_tell → IsAcceptedRun told name flow) → (HoldsPrefix flow store_before → HoldsPrefix flow store_after) → out_after ≡ out_before → HasLeft files_tell told name tells store_before store_after out_before out_after stop
-  printing : (flow : Dataflow) → (IsTrue files_tell → IsAcceptedRun told name flow) → (HoldsPrefix flow store_before → store_after ≡ mean flow) → (IsTrue tells → HoldsPrefix flow store_before → GotFront (run_text flow) out_before out_after) → IsPrintStop ⊤ ⊤ stop → HasLeft files_tell told name tells store_before store_after out_before out_after stop
+-- a run that was done: its windows are stored and printed
+pub record HasRun (flow : Dataflow) (store : StoreChange) (output : OutputChange) : Type 0 where
+  -- all are stored
+  pub stored : HasStored flow store
+  -- what was printed is what was stored
+  pub printed :
+    IsTrue output.tells → IsTrue store.tells → HoldsPrefix flow store.before →
+    output.after ≡ output.before ++ run_text flow
+
+-- what stops printing: a fault of the store or of the output
+abbrev pub printing_causes : (store output : Type 0) → Causes
+printing_causes store output = record no_causes { store = store; output = output }
+
+-- A run that stopped while it stored: the store holds first windows, and nothing is printed.
+pub record HasStoredSome (flow : Dataflow) (store : StoreChange) (output : OutputChange) (stop : Stop) : Type 0 where
+  -- why it stopped
+  pub cause : IsCaused (storing_causes flow store.rose) stop
+  -- a store that tells and began with first windows still holds first windows
+  pub stored : IsTrue store.tells → HoldsPrefix flow store.before → HoldsPrefix flow store.after
+  -- nothing is printed
+  pub unprinted : output.after ≡ output.before
+
+-- A run that stopped while it printed: all is stored, and a front of the text is printed.
+pub record HasPrintedSome (flow : Dataflow) (store : StoreChange) (output : OutputChange) (stop : Stop) : Type 0 where
+  -- why it stopped
+  pub cause : IsCaused (printing_causes store.rose output.rose) stop
+  -- all is stored
+  pub stored : HasStored flow store
+  -- what is printed is a front of what is stored
+  pub printed :
+    IsTrue output.tells → IsTrue store.tells → HoldsPrefix flow store.before →
+    GotFront (run_text flow) output.before output.after
+
+-- how storing and printing a dataflow's windows ends
+abbrev pub HasPassedTo : Dataflow → StoreChange → OutputChange → Result ⊤ Stop → Type 0
+HasPassedTo flow store output (Ok _) = HasRun flow store output
+HasPassedTo flow store output (Err stop) = HasStoredSome flow store output stop ⊎ HasPrintedSome flow store output stop
+
+-- How a run ends: it stopped at its files, and touched nothing; or it stored and printed the windows of the dataflow of the
+-- files that were read, as far as it came.
+pub data HasRunTo (name : List ℕ) (answers : List Answer) (folder : Type 0) (store : StoreChange) (output : OutputChange) (end : Result ⊤ Stop) : Type 0 where
+  stopped_reading :
+    (stop : Stop) → end ≡ Err stop →
+    IsCaused (reading_causes (IsRunRefusal (by_answers answers) name) answers folder) stop →
+    store.same → output.after ≡ output.before →
+    HasRunTo name answers folder store output end
+  passed :
+    (flow : Dataflow) → IsAcceptedRun (by_answers answers) name flow → HasPassedTo flow store output end →
+    HasRunTo name answers folder store output end

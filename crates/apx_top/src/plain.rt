@@ -1,11 +1,12 @@
 //! The whole program on one thread, from its words to its status.
-ghost use Rattle.std.specs.Prelude.{◌≡◌, ◌≤◌, ◌++◌, IsTrue, IsErr, IfErr, IfOk, OnOk, codes, map, string_bytes};
+ghost use Rattle.std.specs.Prelude.{◌≡◌, ◌≤◌, ◌↔◌, None, Err, length, map, string_bytes, IsTrue};
 ghost use Rattle.apx_cause.specs.Cause.{Rose};
-ghost use Rattle.apx_device.specs.Out.{GotFront};
-ghost use Rattle.apx_pass.specs.Pass.{Dataflow};
 ghost use Rattle.apx_load.specs.declared.refusal.Refusal.{Refusal};
-ghost use Rattle.apx_load.specs.Refusals.{IsRefusal, IsDataflow};
-ghost use Rattle.apx_top.specs.Plain.{IsCheckStop, HasChecked, IsEnd, HasRefused, IsComplete, HasDone, HasStopped, status_after, line_after, HasSaid};
+ghost use Rattle.apx_load.specs.Hearing.{HasHeard};
+ghost use Rattle.apx_load.specs.Refusals.{by_files, AreAccepted, IsRefusal};
+ghost use Rattle.apx_load.specs.Words.{command_of};
+ghost use Rattle.apx_top.specs.Changes.{store_change, output_change};
+ghost use Rattle.apx_top.specs.Plain.{HasCheckedTo, HasEnded, HasRefused, IsLargeRun, IsComplete, status_after, line_after, HasSaid};
 
 use crate::say::{say, status};
 use crate::sim::sim;
@@ -37,9 +38,10 @@ fn check<F: Folder, O: Out>(
     name: &str,
     out: &mut O,
 ) -> Result<(), Stop>
-    ensures done { OnOk result (HasChecked F.tells (F.told files.old) name.now O.tells (O.written out.old) (O.written out.new)) }
-    ensures left { IfErr result (λ _. IsTrue O.tells → GotFront (codes "ok\n") (O.written out.old) (O.written out.new)) }
-    ensures stop { IfErr result (IsCheckStop F.tells (F.told files.old) name.now (Rose (F.faults files.old) (F.faults files.new)) (Rose (O.faults out.old) (O.faults out.new))) }
+    ensures told { F.told files.new ≡ F.told files.old }
+    ensures heard { HasHeard F.tells (F.told files.old) (F.heard files.old) (F.heard files.new) (λ answers.
+        (length answers ≡ 1) × HasCheckedTo name.now answers (Rose (F.faults files.old) (F.faults files.new))
+            (output_change O.tells O.written O.faults out.old out.new) result) }
 {
     application(alloc, files, name)?;
     match write_all(out, b"ok\n") {
@@ -57,11 +59,11 @@ fn act<F: Folder, K: Keeper, O: Out>(
     out: &mut O,
 ) -> Result<(), Stop>
     requires { IsTrue (K.sound keeper.old) }
-    ensures done { IsTrue K.tells →
-        OnOk result (HasDone (map string_bytes words.now) F.tells (F.told files.old) O.tells (K.stored keeper.old) (K.stored keeper.new) (O.written out.old) (O.written out.new)) }
-    ensures left { IsTrue K.tells →
-        IfErr result (HasStopped (map string_bytes words.now) F.tells (F.told files.old) O.tells (K.stored keeper.old) (K.stored keeper.new) (O.written out.old) (O.written out.new)) }
-    ensures end { IsEnd (map string_bytes words.now) F.tells (F.told files.old) (Rose (F.faults files.old) (F.faults files.new)) (Rose (K.faults keeper.old) (K.faults keeper.new)) (Rose (O.faults out.old) (O.faults out.new)) result }
+    ensures told { F.told files.new ≡ F.told files.old }
+    ensures heard { HasHeard F.tells (F.told files.old) (F.heard files.old) (F.heard files.new) (λ answers.
+        HasEnded (map string_bytes words.now) answers (Rose (F.faults files.old) (F.faults files.new))
+            (store_change K.tells K.stored K.last K.faults keeper.old keeper.new)
+            (output_change O.tells O.written O.faults out.old out.new) result) }
 {
     match command(words) {
         None => Err(Stop::Refused(Refusal::NotACommand)),
@@ -87,17 +89,30 @@ pub fn apex_plain<F: Folder, K: Keeper, O: Out, E: Out>(
     err: &mut E,
 ) -> Ended<K>
     requires { IsTrue (K.sound devices.keeper) }
-    ensures done { IsTrue K.tells →
-        OnOk result.end (HasDone (map string_bytes words.now) F.tells (F.told files.old) O.tells (K.stored devices.keeper) (K.stored result.devices.keeper) (O.written out.old) (O.written out.new)) }
-    ensures left { IsTrue K.tells →
-        IfErr result.end (HasStopped (map string_bytes words.now) F.tells (F.told files.old) O.tells (K.stored devices.keeper) (K.stored result.devices.keeper) (O.written out.old) (O.written out.new)) }
-    ensures end { IsEnd (map string_bytes words.now) F.tells (F.told files.old) (Rose (F.faults files.old) (F.faults files.new)) (Rose (K.faults devices.keeper) (K.faults result.devices.keeper)) (Rose (O.faults out.old) (O.faults out.new)) result.end }
-    ensures refused { IsTrue F.tells → (refusal : Refusal) → IsRefusal (map string_bytes words.now) (F.told files.old) refusal → HasRefused (Rose (F.faults files.old) (F.faults files.new)) refusal result.end }
-    ensures complete { IsTrue F.tells → (flow : Dataflow) → IsDataflow (map string_bytes words.now) (F.told files.old) flow →
-        (Rose (F.faults files.old) (F.faults files.new) → ⊥) → (Rose (K.faults devices.keeper) (K.faults result.devices.keeper) → ⊥) → (Rose (O.faults out.old) (O.faults out.new) → ⊥) →
-        IsComplete flow result.end }
+    // Whatever its folder answers, it ends in a way that these answers allow: done, or stopped for a cause, with the store
+    // and the output left as that stop leaves them.
+    ensures heard { HasHeard F.tells (F.told files.old) (F.heard files.old) (F.heard files.new) (λ answers.
+        HasEnded (map string_bytes words.now) answers (Rose (F.faults files.old) (F.faults files.new))
+            (store_change K.tells K.stored K.last K.faults devices.keeper result.devices.keeper)
+            (output_change O.tells O.written O.faults out.old out.new) result.end) }
+
+    // Words that are no command are told so, and no others.
+    ensures command { (command_of (map string_bytes words.now) ≡ None) ↔ (result.end ≡ Err (Stop.Refused Refusal.NotACommand)) }
+
+    // Where the folder tells its files, what words and files refuse first is refused, unless the folder fails.
+    ensures refused { IsTrue F.tells → (refusal : Refusal) → IsRefusal (by_files (F.told files.old)) (map string_bytes words.now) refusal →
+        HasRefused (Rose (F.faults files.old) (F.faults files.new)) refusal result.end }
+
+    // And what is accepted is done, unless a device fails.
+    ensures complete { IsTrue F.tells → AreAccepted (by_files (F.told files.old)) (map string_bytes words.now) →
+        (Rose (F.faults files.old) (F.faults files.new) → ⊥) →
+        (Rose (K.faults devices.keeper) (K.faults result.devices.keeper) → ⊥) →
+        (Rose (O.faults out.old) (O.faults out.new) → ⊥) →
+        IsComplete (IsLargeRun (by_files (F.told files.old)) (map string_bytes words.now)) result.end }
+
     ensures status { result.status ≡ status_after result.end }
-    ensures said { IsTrue E.tells → HasSaid (line_after result.end) (Rose (E.faults err.old) (E.faults err.new)) (E.written err.old) (E.written err.new) }
+    ensures said { IsTrue E.tells → HasSaid (line_after result.end)
+        (Rose (E.faults err.old) (E.faults err.new)) (E.written err.old) (E.written err.new) }
 {
     let Devices { mut keeper } = devices;
     let end = act(alloc, words, files, &mut keeper, out);
@@ -112,7 +127,8 @@ pub fn apex_plain<F: Folder, K: Keeper, O: Out, E: Out>(
 /// The status, after a line of the error output for a run that stopped.
 fn conclude<E: Out>(end: &Result<(), Stop>, err: &mut E) -> u8
     ensures status { result ≡ status_after end.now }
-    ensures said { IsTrue E.tells → HasSaid (line_after end.now) (Rose (E.faults err.old) (E.faults err.new)) (E.written err.old) (E.written err.new) }
+    ensures said { IsTrue E.tells → HasSaid (line_after end.now)
+        (Rose (E.faults err.old) (E.faults err.new)) (E.written err.old) (E.written err.new) }
 {
     match end {
         Ok(()) => 0,

@@ -3,7 +3,8 @@ ghost use Rattle.std.specs.Prelude.{◌≡◌, ◌≤◌, ◌-◌, List, Some, l
 ghost use Rattle.apx_cause.specs.Cause.{Rose};
 ghost use Rattle.apx_tuple.specs.declared.tuple.Tuple.{Tuple};
 ghost use Rattle.apx_pass.specs.Texts.{window_text as text_of, windows_text};
-ghost use Rattle.apx_top.specs.Print.{IsPrintStop};
+ghost use Rattle.apx_load.specs.Stops.{IsCaused, no_causes};
+ghost use Rattle.apx_top.specs.Run.{printing_causes};
 ghost use Rattle.apx_top.specs.Sent.{HasWritten};
 
 use crate::write::write_all;
@@ -22,7 +23,7 @@ fn write_window<O: Out>(alloc: Global, window: u32, rows: &[Tuple], out: &mut O)
     requires high { window ≤ 20000 }
     ensures written { HasWritten O.tells (text_of 1000000000 window rows.now) result (O.written out.old) (O.written out.new) }
     ensures later { O.faults out.old ≤ O.faults out.new }
-    ensures stop { IfErr result (IsPrintStop ⊥ (Rose (O.faults out.old) (O.faults out.new))) }
+    ensures stop { IfErr result (IsCaused (record no_causes { output = Rose (O.faults out.old) (O.faults out.new) })) }
 {
     let mut text = Vec::new(alloc);
     if window_text(BASE, window, rows, &mut text).is_err() {
@@ -52,7 +53,8 @@ fn print_window<K: Keeper, O: Out>(
         HasWritten O.tells (text_of 1000000000 window rows) result (O.written out.old) (O.written out.new) }
     ensures store_later { K.faults keeper.old ≤ K.faults keeper.new }
     ensures later { O.faults out.old ≤ O.faults out.new }
-    ensures stop { IfErr result (IsPrintStop (Rose (K.faults keeper.old) (K.faults keeper.new)) (Rose (O.faults out.old) (O.faults out.new))) }
+    ensures stop { IfErr result (IsCaused
+        (printing_causes (Rose (K.faults keeper.old) (K.faults keeper.new)) (Rose (O.faults out.old) (O.faults out.new)))) }
 {
     match keeper.rows(alloc, window) {
         Ok(rows) => write_window(alloc, window, &rows, out),
@@ -72,11 +74,14 @@ pub(crate) fn print_all<K: Keeper, O: Out>(
     requires few { windows ≤ 20000 }
     requires there { windows ≤ K.last keeper.old }
     ensures stored { K.stored keeper.new ≡ K.stored keeper.old }
+    ensures last { K.last keeper.new ≡ K.last keeper.old }
     ensures written { IsTrue K.tells → windows ≤ length (K.stored keeper.old) →
-        HasWritten O.tells (windows_text 1000000000 1 (take windows (K.stored keeper.old))) result (O.written out.old) (O.written out.new) }
+        HasWritten O.tells (windows_text 1000000000 1 (take windows (K.stored keeper.old))) result
+            (O.written out.old) (O.written out.new) }
     ensures store_later { K.faults keeper.old ≤ K.faults keeper.new }
     ensures later { O.faults out.old ≤ O.faults out.new }
-    ensures stop { IfErr result (IsPrintStop (Rose (K.faults keeper.old) (K.faults keeper.new)) (Rose (O.faults out.old) (O.faults out.new))) }
+    ensures stop { IfErr result (IsCaused
+        (printing_causes (Rose (K.faults keeper.old) (K.faults keeper.new)) (Rose (O.faults out.old) (O.faults out.new)))) }
 {
     for done in 0..windows {
         print_window(alloc, keeper, done + 1, out)?;

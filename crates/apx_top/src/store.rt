@@ -1,9 +1,11 @@
 //! Storing the windows of a run.
-ghost use Rattle.std.specs.Prelude.{◌≡◌, ◌<◌, ◌≤◌, ◌+◌, ◌++◌, ◌∷◌, [], suc, IsTrue, IfOk, IfErr, OnOk};
+ghost use Rattle.std.specs.Prelude.{◌≡◌, ◌<◌, ◌≤◌, max, ◌+◌, ◌++◌, ◌∷◌, [], suc, IsTrue, IfOk, IfErr, OnOk};
 ghost use Rattle.apx_cause.specs.Cause.{Rose};
-ghost use Rattle.apx_pass.specs.Pass.{windows_of, rows_at, sink_of, mean};
+ghost use Rattle.apx_pass.specs.Pass.{windows, windows_of, rows_at, sink_of, mean};
 ghost use Rattle.apx_mean.specs.Passing.{dataflow_of};
-ghost use Rattle.apx_top.specs.Store.{HoldsPrefix, IsStoreStop, LeftByCommit, IsCommitStop};
+ghost use Rattle.apx_load.specs.Stops.{IsCaused, no_causes};
+ghost use Rattle.apx_pass.specs.Large.{IsLargeDataflow};
+ghost use Rattle.apx_top.specs.Store.{HoldsPrefix, storing_causes, LeftByCommit};
 
 use apx_dag::Dag;
 use apx_device::{KeepRefusal, Keeper};
@@ -17,11 +19,12 @@ use std::alloc::Global;
 fn commit<K: Keeper>(keeper: &mut K, window: u32, rows: &Bag) -> Result<(), Stop>
     requires sound { IsTrue (K.sound keeper.old) }
     requires next { window ≡ K.last keeper.old + 1 }
-    ensures stored { IsTrue K.tells → LeftByCommit result (K.stored keeper.old) (K.stored keeper.old ++ rows.now ∷ []) (K.stored keeper.new) }
+    ensures stored { IsTrue K.tells →
+        LeftByCommit result (K.stored keeper.old) (K.stored keeper.old ++ rows.now ∷ []) (K.stored keeper.new) }
     ensures last { OnOk result (K.last keeper.new ≡ K.last keeper.old + 1) }
     ensures sound { OnOk result (IsTrue (K.sound keeper.new)) }
     ensures later { K.faults keeper.old ≤ K.faults keeper.new }
-    ensures stop { IfErr result (IsCommitStop (Rose (K.faults keeper.old) (K.faults keeper.new))) }
+    ensures stop { IfErr result (IsCaused (record no_causes { store = Rose (K.faults keeper.old) (K.faults keeper.new) })) }
 {
     match keeper.commit(window, rows.tuples()) {
         Ok(()) => Ok(()),
@@ -32,9 +35,11 @@ fn commit<K: Keeper>(keeper: &mut K, window: u32, rows: &Bag) -> Result<(), Stop
 
 /// The next window of a pass.
 fn next_window<'a>(alloc: Global, pass: OnePass<'a>) -> Result<(OnePass<'a>, Bag), Stop>
-    requires { pass.passed < 20000 }
-    ensures ok { IfOk result (λ r. (r.0 ≡ record { flow = pass.entry.flow; passed = pass.entry.passed + 1 }) × (r.1 ≡ rows_at pass.entry.flow (suc pass.entry.passed) (sink_of pass.entry.flow.nodes))) }
-    ensures stop { IfErr result (IsStoreStop pass.entry.flow ⊥) }
+    requires passed { pass.passed < 20000 }
+    requires within { pass.passed < windows pass.flow }
+    ensures ok { IfOk result (λ r. (r.0 ≡ record { flow = pass.entry.flow; passed = pass.entry.passed + 1 })
+        × (r.1 ≡ rows_at pass.entry.flow (suc pass.entry.passed) (sink_of pass.entry.flow.nodes))) }
+    ensures stop { IfErr result (IsCaused (record no_causes { large = IsLargeDataflow pass.entry.flow })) }
 {
     match pass.next(alloc) {
         Ok(passed) => Ok(passed),
@@ -50,19 +55,22 @@ fn next_window<'a>(alloc: Global, pass: OnePass<'a>) -> Result<(OnePass<'a>, Bag
 pub(crate) fn store_all<K: Keeper>(
     alloc: Global,
     dag: &Dag,
-    inputs: &[Option<Windows>],
+    inputs: &[Windows],
     windows: u32,
     keeper: &mut K,
 ) -> Result<(), Stop>
     requires sound { IsTrue (K.sound keeper.old) }
     requires windows { windows ≡ windows_of inputs.now }
     requires few { windows ≤ 20000 }
-    ensures prefix { IsTrue K.tells → HoldsPrefix (dataflow_of dag.now inputs.now) (K.stored keeper.old) → HoldsPrefix (dataflow_of dag.now inputs.now) (K.stored keeper.new) }
-    ensures all { IsTrue K.tells → HoldsPrefix (dataflow_of dag.now inputs.now) (K.stored keeper.old) → OnOk result (K.stored keeper.new ≡ mean (dataflow_of dag.now inputs.now)) }
-    ensures reached { OnOk result (windows ≤ K.last keeper.new) }
+    ensures prefix { IsTrue K.tells → HoldsPrefix (dataflow_of dag.now inputs.now) (K.stored keeper.old) →
+        HoldsPrefix (dataflow_of dag.now inputs.now) (K.stored keeper.new) }
+    ensures all { IsTrue K.tells → HoldsPrefix (dataflow_of dag.now inputs.now) (K.stored keeper.old) →
+        OnOk result (K.stored keeper.new ≡ mean (dataflow_of dag.now inputs.now)) }
+    ensures last { OnOk result (K.last keeper.new ≡ max (K.last keeper.old) windows) }
     ensures sound { OnOk result (IsTrue (K.sound keeper.new)) }
     ensures later { K.faults keeper.old ≤ K.faults keeper.new }
-    ensures stop { IfErr result (IsStoreStop (dataflow_of dag.now inputs.now) (Rose (K.faults keeper.old) (K.faults keeper.new))) }
+    ensures stop { IfErr result (IsCaused
+        (storing_causes (dataflow_of dag.now inputs.now) (Rose (K.faults keeper.old) (K.faults keeper.new)))) }
 {
     let first = keeper.last();
     let mut pass = match OnePass::new(alloc, dag, inputs) {
