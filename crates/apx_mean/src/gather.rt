@@ -8,7 +8,7 @@ ghost use Rattle.std.specs.Bool.{OnTrue};
 ghost use Rattle.apx_mean.specs.Views.{carry, IsLargeStep};
 ghost use Rattle.apx_pass.specs.Large.{IsLargePassed};
 
-use apx_step::step;
+use apx_step::step_in_place;
 use apx_tuple::{Bag, Kind, Progress, Short, State};
 use std::alloc::Global;
 
@@ -35,14 +35,14 @@ fn stepped(
     alloc: Global,
     kind: &Kind,
     window: u32,
-    state: &State,
+    state: State,
     left: &Bag,
     right: &Bag,
 ) -> Result<Passed, Short>
-    ensures ok { IfOk result (λ passed. (passed.progress ≡ record { state = (step_of kind.now window state.now left.now right.now).state; left = []; right = [] }) × (passed.rows ≡ (step_of kind.now window state.now left.now right.now).rows)) }
-    ensures large { result ≡ Err Short.Large → IsLargeStep (step_of kind.now window state.now left.now right.now) }
+    ensures ok { IfOk result (λ passed. (passed.progress ≡ record { state = (step_of kind.now window state left.now right.now).state; left = []; right = [] }) × (passed.rows ≡ (step_of kind.now window state left.now right.now).rows)) }
+    ensures large { result ≡ Err Short.Large → IsLargeStep (step_of kind.now window state left.now right.now) }
 {
-    let (state, rows) = step(alloc, kind, window, state, left, right)?;
+    let (state, rows) = step_in_place(alloc, kind, window, state, left, right)?;
     let progress = Progress {
         state,
         left: Bag::new(alloc),
@@ -105,14 +105,7 @@ pub(crate) fn gather(
         return carried(alloc, before, left, right);
     }
     if begins_anew(&before, left, right) {
-        return stepped(
-            alloc,
-            kind,
-            window / app_windows,
-            &before.state,
-            left,
-            right,
-        );
+        return stepped(alloc, kind, window / app_windows, before.state, left, right);
     }
     let left = joined(alloc, before.left, left)?;
     let right = joined(alloc, before.right, right)?;
@@ -120,7 +113,7 @@ pub(crate) fn gather(
         alloc,
         kind,
         window / app_windows,
-        &before.state,
+        before.state,
         &left,
         &right,
     )

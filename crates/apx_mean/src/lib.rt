@@ -8,3 +8,5 @@ pub use pass::OnePass;
 mod gather;
 mod operator;
 mod pass;
+#[cfg(test)]
+mod tests;

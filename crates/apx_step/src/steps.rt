@@ -15,7 +15,8 @@ use std::alloc::{AllocError, Global};
 /// The state and the rows of an operator of this kind after the window, from the state before it and the
 /// bags that came on its ports. A kind with one port has an empty bag on the right.
 ///
-/// `Large` comes only where that state or those rows are too large.
+/// `Large` comes only where that state or those rows are too large. The state is copied: where it isn't
+/// needed any more, [`step_in_place`] changes it.
 pub fn step(
     alloc: Global,
     kind: &Kind,
@@ -26,6 +27,23 @@ pub fn step(
 ) -> Result<(State, Bag), Short>
     ensures ok { IfOk result (λ r. (r.0 ≡ (step kind.now window state.now left.now right.now).state) × (r.1 ≡ (step kind.now window state.now left.now right.now).rows)) }
     ensures large { result ≡ Err Short.Large → IsLarge pair_key (step kind.now window state.now left.now right.now).state ⊎ IsLarge tuple_key (step kind.now window state.now left.now right.now).rows }
+{
+    step_in_place(alloc, kind, window, state.copy()?, left, right)
+}
+
+/// The same, with the state changed in place and given back: so a window costs what comes in it.
+///
+/// `Large` comes only where that state or those rows are too large. The state is dropped on a refusal.
+pub fn step_in_place(
+    alloc: Global,
+    kind: &Kind,
+    window: u32,
+    state: State,
+    left: &Bag,
+    right: &Bag,
+) -> Result<(State, Bag), Short>
+    ensures ok { IfOk result (λ r. (r.0 ≡ (step kind.now window state left.now right.now).state) × (r.1 ≡ (step kind.now window state left.now right.now).rows)) }
+    ensures large { result ≡ Err Short.Large → IsLarge pair_key (step kind.now window state left.now right.now).state ⊎ IsLarge tuple_key (step kind.now window state left.now right.now).rows }
 {
     match *kind {
         Kind::Top { k } => Ok((State::new(alloc), top(alloc, k, left)?)),
@@ -38,14 +56,14 @@ fn keyed_step(
     alloc: Global,
     kind: &Kind,
     window: u32,
-    state: &State,
+    state: State,
     left: &Bag,
     right: &Bag,
 ) -> Result<(State, Bag), Short>
-    ensures ok { IfOk result (λ r. (r.0 ≡ (keyed_step kind.now window state.now left.now right.now).state) × (r.1 ≡ (keyed_step kind.now window state.now left.now right.now).rows)) }
-    ensures large { result ≡ Err Short.Large → IsLarge pair_key (keyed_step kind.now window state.now left.now right.now).state ⊎ IsLarge tuple_key (keyed_step kind.now window state.now left.now right.now).rows }
+    ensures ok { IfOk result (λ r. (r.0 ≡ (keyed_step kind.now window state left.now right.now).state) × (r.1 ≡ (keyed_step kind.now window state left.now right.now).rows)) }
+    ensures large { result ≡ Err Short.Large → IsLarge pair_key (keyed_step kind.now window state left.now right.now).state ⊎ IsLarge tuple_key (keyed_step kind.now window state left.now right.now).rows }
 {
-    let start = start_of(alloc, kind, state)?;
+    let start = start_of(alloc, kind, state);
     let (kept, emitted) = walk(alloc, kind, start, left, right)?;
     if closes(kind, window) {
         let rows = Bag::of(all_kept(alloc, &kept)?)?;
@@ -55,14 +73,14 @@ fn keyed_step(
 }
 
 /// What the walk begins with: the state, where the kind keeps entries.
-fn start_of(alloc: Global, kind: &Kind, state: &State) -> Result<State, AllocError>
-    ensures start { IfOk result (λ start. start ≡ start_of kind.now state.now) }
-    ensures state { IsState state.now }
+fn start_of(alloc: Global, kind: &Kind, state: State) -> State
+    ensures start { result ≡ start_of kind.now state }
+    ensures state { IsState state }
 {
     if state.len() == 0 || !keeps(kind) {
-        return Ok(State::new(alloc));
+        return State::new(alloc);
     }
-    state.copy()
+    state
 }
 
 /// Whether the kind keeps an entry for a key.

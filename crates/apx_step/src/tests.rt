@@ -40,7 +40,7 @@ fn rows_of(alloc: Global, kind: Kind, lefts: &str, rights: &str) -> Result<Strin
     for (left, right) in lefts.split(';').zip(rights.split(';')) {
         let left = bag(alloc, left)?;
         let right = bag(alloc, right)?;
-        let (next, rows) = step(alloc, &kind, window, &state, &left, &right)?;
+        let (next, rows) = step_in_place(alloc, &kind, window, state, &left, &right)?;
         write_rows(alloc, &rows, &mut text)?;
         text.push_str(";")?;
         state = next;
@@ -82,6 +82,7 @@ fn kinds_that_keep_an_entry_add_to_it(rt: HostRuntime) -> Result<(), Fail> {
         (Kind::Peak, "k=5;k=3;k=7;", "k=5,;;k=7,;;"),
         (Kind::First, "k=5,k=3;k=1;;", "k=3,;;;;"),
         (Kind::Tumble { every: 3 }, "k=1;k=1;k=1;k=1", ";;k=3,;;"),
+        (Kind::Tumble { every: 2 }, "k=1;z=5;;", ";k=1,z=5,;;;"),
     ];
     for (kind, lefts, rows) in table {
         assert_eq!(rt; rows_of(alloc, kind, lefts, ";;;")?.as_str(), rows);
@@ -97,5 +98,23 @@ fn joins_read_the_right_port(rt: HostRuntime) -> Result<(), Fail> {
         let emitted = rows_of(alloc, kind, "k=1;k=2,z=1", "k=7,k=10;")?;
         assert_eq!(rt; emitted.as_str(), rows);
     }
+    Ok(())
+}
+
+#[test]
+fn a_step_by_reference_leaves_the_state(rt: HostRuntime) -> Result<(), Fail> {
+    let alloc = rt.alloc();
+    let mut state = State::new(alloc);
+    state.set(Key::of(alloc, b"a")?, 2)?;
+    let left = bag(alloc, "a=7,b=7")?;
+    let none = Bag::new(alloc);
+    for _ in 0..2 {
+        let (next, rows) = step(alloc, &Kind::Count, 1, &state, &left, &none)?;
+        let mut text = String::new(alloc);
+        write_rows(alloc, &rows, &mut text)?;
+        assert_eq!(rt; text.as_str(), "a=3,b=1,");
+        assert_eq!(rt; next.len(), 2);
+    }
+    assert_eq!(rt; state.len(), 1);
     Ok(())
 }

@@ -3,7 +3,7 @@ ghost use Rattle.std.specs.Prelude.{◌≡◌, ◌≤◌, ◌++◌, length, OnOk
 ghost use Rattle.apx_rules.specs.Rule.{words_of};
 ghost use Rattle.apx_step.specs.Words.{is_blank, first_word, past_word, unless_empty, with_value};
 
-use crate::rules::{emit, key_of};
+use crate::rules::key_of;
 use apx_tuple::{Key, Tuple};
 use std::alloc::{AllocError, Global};
 
@@ -40,7 +40,11 @@ fn emit_word(
     if word.is_empty() {
         return Ok(());
     }
-    emit(&key_of(alloc, word)?, value, emitted)
+    emitted.push(Tuple {
+        key: key_of(alloc, word)?,
+        value,
+    })?;
+    Ok(())
 }
 
 /// Emits each word of the key with the value.
