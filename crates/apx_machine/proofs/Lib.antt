@@ -1,0 +1,10 @@
+pub mod Lists
+pub mod Loops
+pub mod Limits
+pub mod Reach
+pub mod Mapped
+pub mod Begun
+pub mod Starting
+pub mod Keeping
+pub mod Few
+pub mod Rows

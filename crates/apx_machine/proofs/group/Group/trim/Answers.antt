@@ -1,0 +1,13 @@
+use Rattle.std.proofs.Common.{◌≡◌, ℕ, List, cond, ◌||◌, length, ap, ◌∙◌, arith}
+use Rattle.apx_history.specs.State.{Slot, Oper, fresh, map_from}
+use Rattle.apx_history.specs.Effects.{trimmed}
+use Rattle.apx_machine.proofs.Mapped.{mapped}
+use Rattle.apx_machine.proofs.group.Group.trim.Goals as goal
+
+pub returns : goal.returns
+returns c =
+    let whole = mapped (λ i. trimmed c.args.window) (fresh 0) c.self.inside.parts.items c.loop-part.self-inside.parts.items c.loop-part.invariant.size
+    (λ k r. c.loop-part.invariant.done k (omega (arith, c.len-part-end.ensures))) in
+    ap (λ (p : List Slot). record { boundary = c.loop-part.self-inside.boundary; parts = p }) whole
+    ∙ ap (λ (b : ℕ). record { boundary = b; parts = map_from 0 (λ i. trimmed c.args.window) c.self.inside.parts.items }) c.loop-part.invariant.boundary
+    ∙ ap (λ (g : Oper). record { boundary = g.boundary; parts = map_from 0 (λ i. trimmed c.args.window) g.parts }) c.self.view_is

@@ -1,0 +1,183 @@
+//! The machine of a run.
+ghost use Rattle.std.specs.Prelude.{◌≡◌, ℕ, ◌≤◌, ◌<◌, Bool, true, length, IfOk, OnOk, OnErr};
+ghost use Rattle.apx_history.specs.State.{oper, parts, slot, IsPart, running};
+ghost use Rattle.apx_history.specs.Enabled.{can};
+ghost use Rattle.apx_history.specs.Effects.{next};
+ghost use Rattle.apx_history.specs.Journals.{beginning};
+ghost use Rattle.apx_history.specs.Choices.{choices};
+ghost use Rattle.apx_history.specs.Kept.{IsPlan, IsStart, Kept};
+ghost use Rattle.apx_machine.specs.Small.{IsSmall};
+
+use crate::engine::Engine;
+use crate::plan::Plan;
+use apx_history::Event;
+use std::alloc::{AllocError, Global};
+use std::marker::Model;
+
+/// A run's machine: the plan of a job, and a state that keeps what every state keeps.
+///
+/// ```text
+/// let mut machine = Machine::new(alloc, plan, 0)?;
+/// let event = Event::Start { op: 0, part: 0, window: 1 };
+/// if machine.enabled(&event) {
+///     machine.apply(alloc, 0, event)?;
+/// }
+/// ```
+#[derive(Debug, Drop)]
+pub struct Machine {
+    engine: Engine,
+}
+
+impl Model for Machine {
+    ghost use Rattle.apx_history.specs.Kept.{IsPlan, Kept};
+    ghost use Rattle.apx_machine.specs.Machine.{Running};
+    ghost use Rattle.apx_machine.specs.Small.{IsSmall};
+
+    ghost Value = { Running };
+
+    ghost view = { λ m. m.engine };
+
+    ghost invariant = { λ m. IsPlan m.engine.plan × IsSmall m.engine.plan × Kept m.engine.plan m.engine.state };
+}
+
+impl Machine {
+    /// The machine of a run that begins from nothing, over a store with the windows up to `stored`.
+    pub fn new(alloc: Global, plan: Plan, stored: u32) -> Result<Machine, AllocError>
+        requires plan { IsPlan plan }
+        requires small { IsSmall plan }
+        requires stored { stored ≤ plan.windows }
+        ensures { IfOk result (λ m. m ≡ record { plan = plan; state = beginning plan stored 0 }) }
+    {
+        Ok(Machine {
+            engine: Engine::begin(alloc, plan, stored, 0)?,
+        })
+    }
+
+    /// The machine of a run that is resumed behind a window `from`, over a store with the windows up to `stored`.
+    pub fn resumed(alloc: Global, plan: Plan, stored: u32, from: u32) -> Result<Machine, AllocError>
+        requires plan { IsPlan plan }
+        requires small { IsSmall plan }
+        requires start { IsStart plan stored from }
+        ensures { IfOk result (λ m. m ≡ record { plan = plan; state = beginning plan stored from }) }
+    {
+        Ok(Machine {
+            engine: Engine::begin(alloc, plan, stored, from)?,
+        })
+    }
+
+    /// Whether an event may come next.
+    pub fn enabled(&self, event: &Event) -> bool
+        ensures { result ≡ can self.now.plan self.now.state event.now }
+    {
+        self.engine.enabled(*event)
+    }
+
+    /// The events to choose from, in order, in place of what the list had. For want of memory the list may have a part of them.
+    pub fn choices(&self, into: &mut Vec<Event>) -> Result<(), AllocError>
+        ensures { IfOk result (λ _. into.new.items ≡ choices self.now.plan self.now.state) }
+    {
+        self.engine.choices(into)
+    }
+
+    /// What an event changes. Save and Repartition may want memory; then nothing is changed.
+    pub fn apply(&mut self, alloc: Global, worker: u8, event: Event) -> Result<(), AllocError>
+        requires { can self.old.plan self.old.state event ≡ true }
+        ensures plan { self.new.plan ≡ self.old.plan }
+        ensures ok { OnOk result (self.new.state ≡ next self.old.plan self.old.state worker event) }
+        ensures err { OnErr result (self.new.state ≡ self.old.state) }
+    {
+        self.engine.apply(alloc, worker, event)
+    }
+
+    /// What is known of each machine: its plan is one of a job, and its state keeps what every state keeps.
+    pub fn facts(&self)
+        ensures plan { IsPlan self.now.plan }
+        ensures small { IsSmall self.now.plan }
+        ensures kept { Kept self.now.plan self.now.state }
+    {
+        let _ = &self.engine;
+    }
+
+    /// Whether the run goes on.
+    pub fn is_running(&self) -> bool
+        ensures { result ≡ running self.now.state }
+    {
+        self.engine.is_running()
+    }
+
+    /// Whether the run has ended.
+    pub fn finished(&self) -> bool
+        ensures { result ≡ self.now.state.ended }
+    {
+        self.engine.finished()
+    }
+
+    /// What every partition has behind it for good.
+    pub fn committed(&self) -> u32
+        ensures { result ≡ self.now.state.committed }
+    {
+        self.engine.committed()
+    }
+
+    /// The last stored window.
+    pub fn stored(&self) -> u32
+        ensures { result ≡ self.now.state.stored }
+    {
+        self.engine.stored()
+    }
+
+    /// How many operators there are.
+    pub fn len(&self) -> usize
+        ensures { result ≡ length self.now.state.ops }
+    {
+        self.engine.len()
+    }
+
+    /// How many partitions an operator has.
+    pub fn parts(&self, op: usize) -> usize
+        requires { op < length self.now.state.ops }
+        ensures { result ≡ parts self.now.state op }
+    {
+        self.engine.parts(op)
+    }
+
+    /// The boundary of an operator's epoch.
+    pub fn boundary(&self, op: usize) -> u32
+        requires { op < length self.now.state.ops }
+        ensures { result ≡ (oper self.now.state op).boundary }
+    {
+        self.engine.boundary_of(op)
+    }
+
+    /// A partition's last finished window.
+    pub fn at(&self, op: usize, part: usize) -> u32
+        requires { IsPart self.now.state op part }
+        ensures { result ≡ (slot self.now.state op part).at }
+    {
+        self.engine.slot(op, part).at()
+    }
+
+    /// A partition's recovery checkpoint.
+    pub fn rc(&self, op: usize, part: usize) -> u32
+        requires { IsPart self.now.state op part }
+        ensures { result ≡ (slot self.now.state op part).rc }
+    {
+        self.engine.slot(op, part).rc()
+    }
+
+    /// The last window of which a partition's blocks were dropped.
+    pub fn floor(&self, op: usize, part: usize) -> u32
+        requires { IsPart self.now.state op part }
+        ensures { result ≡ (slot self.now.state op part).floor }
+    {
+        self.engine.slot(op, part).floor()
+    }
+
+    /// The window that a partition has open, with the worker who began it.
+    pub fn opened(&self, op: usize, part: usize) -> Option<(u32, u8)>
+        requires { IsPart self.now.state op part }
+        ensures { result ≡ (slot self.now.state op part).opened }
+    {
+        self.engine.slot(op, part).opened()
+    }
+}
