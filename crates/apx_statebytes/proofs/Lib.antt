@@ -1,0 +1,6 @@
+pub mod Numbers
+pub mod Loop
+pub mod Order
+pub mod Laws
+pub mod Writing
+pub mod Made
