@@ -1,5 +1,5 @@
 -- How a size changes: along a list, under an exchange, and with an entry more or less.
-use Rattle.std.proofs.Common.{◌≡◌, ℕ, ℤ, ◌+◌, ◌<◌, ◌≤◌, Bool, true, false, cond, List, [], ◌∷◌, length, take, get_or, refl, sym, ap, ◌∙◌, arith, Option, Some}
+use Rattle.std.proofs.Common.{◌≡◌, ℕ, ℤ, ◌+◌, ◌<◌, ◌≤◌, Bool, true, false, cond, List, [], ◌∷◌, length, take, get_or, refl, sym, ap, ◌∙◌, arith, Option, Some, None}
 use Rattle.std.specs.declared.cmp.Ordering.{Ordering}
 use Rattle.std.specs.declared.cmp.Ordering.TheVariants.{Less, Equal, Greater}
 use Rattle.std.specs.Ordering.{is_eq, is_gt, match_ordering}
@@ -8,7 +8,7 @@ use Rattle.std.specs.Cmp.{IsTotalOrder}
 use Rattle.std.specs.BTreeMap.{insert_entry, is_at}
 use Rattle.std.specs.List.{sum_by}
 use Rattle.std.specs.List.Sorted.{IsPermutation, IsStrictlySortedBy}
-use Rattle.std.specs.Map.{keys_of, lookup, remove_entry}
+use Rattle.std.specs.Map.{keys_of, lookup, remove_entry, set_value}
 use Rattle.std.proofs.lemmas.List.Sums.{sum_by-cons, sum_by_more, sum_by-take-le}
 use Rattle.std.proofs.lemmas.List.Sorted.{sum_by-IsPermutation}
 use Rattle.std.proofs.lemmas.Map.{lookup-none}
@@ -106,6 +106,31 @@ size_by-set-new new es k v old e s f h = ap (size_by pair_key) e ∙ size_by-wit
 
 pub size_by-set-small : (new es : List Pair) (k : List ℕ) (v : ℤ) → new ≡ with_entry es k v → ((w : ℤ) → size_by pair_key (with_entry es k w) < 4294967232) → size_by pair_key new < 4294967232
 size_by-set-small new es k v e small = let now = ap (size_by pair_key) e in omega (arith, now, small v)
+
+-- of pairs that are others with an entry for a key that had none
+pub size_by-put-new : (es es' new : List Pair) (k k' : List ℕ) (v : ℤ) (size len : ℕ) → IsStrictlySortedBy key_order (keys_of es) → es' ≡ es → k' ≡ k → None ≡ value_at es k → new ≡ with_entry es' k' v →
+    size ≡ size_by pair_key es → len ≡ length k → ((w : ℤ) → size_by pair_key (with_entry es' k w) < 4294967232) → (size + (len + 10) ≡ size_by pair_key new) × (size_by pair_key new < 4294967232)
+size_by-put-new es es' new k k' v size len s back own none put is_size is_len small =
+    let e : new ≡ with_entry es k v = put ∙ (λ i. with_entry (back i) (own i) v) in
+    let more = size_by-set-new new es k v None e s none refl in
+    let now : size_by pair_key new ≡ size_by pair_key (with_entry es' k v) = ap (size_by pair_key) (put ∙ ap (λ q. with_entry es' q v) own) in
+    (omega arith, omega (arith, now, small v))
+
+-- an entry that was found and written through is the entry in place of the old one
+pub with_entry-written : (es : List Pair) (k : List ℕ) (v : ℤ) (old : Option ℤ) → IsStrictlySortedBy key_order (keys_of es) → old ≡ value_at es k → is_some old ≡ true →
+    set_value (is_at (key_order k)) es v ≡ with_entry es k v
+unfolding IsStrictlySortedBy
+with_entry-written [] k v old s e h = let none : is_some old ≡ false = ap is_some e in cc
+with_entry-written (p ∷ es) k v old s e h = by (key_order k p.0) refl (with_entry-written es k v old s.1)
+  where
+    by : (r : Ordering) → key_order k p.0 ≡ r → (old ≡ value_at es k → is_some old ≡ true → set_value (is_at (key_order k)) es v ≡ with_entry es k v) →
+        cond (is_eq r) ((p.0, v) ∷ es) (p ∷ set_value (is_at (key_order k)) es v) ≡ match_ordering r ((k, v) ∷ p ∷ es) ((p.0, v) ∷ es) (p ∷ with_entry es k v)
+    by Less g rest =
+        let none : value_at es k ≡ None = lookup-none (is_at (key_order k)) es (none_below_head key_order-exact.total k p es s g).1 in
+        let gone : old ≡ None = e ∙ ap (λ r. cond (is_eq r) (Some p.1) (value_at es k)) g ∙ none in
+        let no : is_some old ≡ false = ap is_some gone in cc
+    by Equal g rest = refl
+    by Greater g rest = ap (λ l. p ∷ l) (rest (e ∙ ap (λ r. cond (is_eq r) (Some p.1) (value_at es k)) g) h)
 
 -- sorting leaves the size
 module _ {X : Type 0} (key : X → List ℕ) (cmp : X → X → Ordering) where

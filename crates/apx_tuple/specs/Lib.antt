@@ -1,3 +1,4 @@
+pub mod Key
 pub mod Kind
 pub mod Progress
 pub mod Size

@@ -1,8 +1,10 @@
 //! Bags: what a window holds, in ascending order.
-ghost use Rattle.std.specs.Prelude.{◌≡◌, ◌<◌, [], IfOk, OnOk};
+ghost use Rattle.std.specs.Prelude.{◌≡◌, ◌<◌, [], IfOk, IfErr, OnOk};
+ghost use Rattle.std.specs.Bool.{OnTrue};
 ghost use Rattle.std.specs.List.{flat_map};
 ghost use Rattle.apx_tuple.specs.Size.{size_by, IsLarge};
-ghost use Rattle.apx_tuple.specs.Tuple.{bag_of, tuple_key, IsBag};
+ghost use Rattle.apx_tuple.specs.Tuple.{bag_of, tuple_key, tuple_order, IsBag};
+ghost use Rattle.apx_order.specs.Sorted.{IsAscending};
 
 use crate::refusal::Short;
 use crate::size::is_large;
@@ -39,10 +41,25 @@ impl Bag {
         }
     }
 
+    /// The bag of these tuples, which ascend already.
+    ///
+    /// It takes no memory: `Large` comes exactly where they are too large for a bag. They are dropped then.
+    pub fn from_ascending(tuples: Vec<Tuple>) -> Result<Bag, Short>
+        requires { IsAscending tuple_order tuples.items }
+        ensures ok { IfOk result (λ bag. bag ≡ tuples.items) }
+        ensures small { OnOk result (size_by tuple_key tuples.items < 4294967232) }
+        ensures large { IfErr result (λ short. (short ≡ Short.Large) × IsLarge tuple_key tuples.items) }
+    {
+        if is_large(tuples.as_slice()) {
+            return Err(Short::Large);
+        }
+        Ok(Bag { tuples })
+    }
+
     /// The bag of these tuples.
     ///
     /// `Large` comes only where they are too large for a bag. The tuples are dropped on a refusal.
-    pub fn of(mut tuples: Vec<Tuple>) -> Result<Bag, Short>
+    pub fn of(tuples: Vec<Tuple>) -> Result<Bag, Short>
         ensures ok { IfOk result (λ bag. bag ≡ bag_of tuples.items) }
         ensures small { OnOk result (size_by tuple_key (bag_of tuples.items) < 4294967232) }
         ensures large { result ≡ Err Short.Large → IsLarge tuple_key (bag_of tuples.items) }
@@ -50,8 +67,9 @@ impl Bag {
         if is_large(&tuples) {
             return Err(Short::Large);
         }
-        tuples.sort()?;
-        Ok(Bag { tuples })
+        Ok(Bag {
+            tuples: in_order(tuples)?,
+        })
     }
 
     /// The bag of the tuples of all the parts.
@@ -89,6 +107,32 @@ impl Bag {
     {
         self.tuples
     }
+}
+
+/// Whether no tuple is above one that comes after it.
+fn ascends(tuples: &[Tuple]) -> bool
+    ensures { OnTrue result (IsAscending tuple_order tuples.now) }
+{
+    for place in 1..tuples.len() {
+        if tuples[place - 1].cmp(&tuples[place]).is_gt() {
+            return false;
+        }
+    }
+    true
+}
+
+/// The tuples in ascending order.
+///
+/// They mostly come in runs: in the order of their keys' fronts these are long, and the stable sort finds them.
+fn in_order(mut tuples: Vec<Tuple>) -> Result<Vec<Tuple>, AllocError>
+    ensures { IfOk result (λ ordered. ordered.items ≡ bag_of tuples.items) }
+{
+    if ascends(&tuples) {
+        return Ok(tuples);
+    }
+    tuples.sort_by_cached_key(|tuple| tuple.key.front())?;
+    tuples.sort()?;
+    Ok(tuples)
 }
 
 /// The tuples of all the parts, one part after the other.

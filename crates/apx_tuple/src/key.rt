@@ -1,8 +1,9 @@
 //! Keys: short byte strings, ordered as bytes.
-ghost use Rattle.std.specs.Prelude.{◌≡◌, ℕ, ◌≤◌, ◌<◌, List, length, nat_eq, refl, Some, IfOk, OnOk};
+ghost use Rattle.std.specs.Prelude.{◌≡◌, ℕ, ◌≤◌, ◌<◌, List, length, slice_index_or, nat_eq, refl, Some, IfOk, OnOk};
 ghost use Rattle.std.specs.Ordering.{nat_cmp};
 ghost use Rattle.std.specs.Cmp.Lexicographic.{pointwise, slice_cmp, nat_list_eq_equiv, nat_list_cmp_total, texts_ties, texts_po};
 ghost use Rattle.std.specs.Cmp.{partial_equiv_from_equiv};
+ghost use Rattle.apx_tuple.specs.Key.{IsFront};
 
 use crate::refusal::KeyRefusal;
 use smallvec::SmallVec;
@@ -10,20 +11,29 @@ use std::alloc::{AllocError, Global};
 use std::cmp::Ordering;
 use std::marker::Model;
 
+/// How many bytes the front of a key has.
+const FRONT_LEN: usize = 8;
+
 /// A key: 0 to 1,024 bytes, compared byte by byte, with a proper prefix first.
 ///
-/// Keys of up to 23 bytes lie in the value itself.
+/// Keys of up to 15 bytes lie in the value itself.
 #[derive(Debug, Drop)]
 pub struct Key {
-    bytes: SmallVec<u8, 23>,
+    /// The first eight bytes as a number, so that most comparisons end at it. Where two fronts are equal the
+    /// bytes decide: `a` and `a` with a zero byte behind it have one front.
+    front: u64,
+    bytes: SmallVec<u8, 15>,
 }
 
 impl Model for Key {
+    ghost use Rattle.std.specs.Prelude.{ℕ, ◌≤◌, List, length};
+    ghost use Rattle.apx_tuple.specs.Key.{IsFront};
+
     ghost Value = { List ℕ };
 
     ghost view = { λ k. k.bytes.items };
 
-    ghost invariant = { λ k. length k.bytes.items ≤ 1024 };
+    ghost invariant = { λ k. (length k.bytes.items ≤ 1024) × IsFront k.front k.bytes.items };
 }
 
 impl Key {
@@ -42,10 +52,21 @@ impl Key {
         if bytes.len() > Key::MAX_LEN {
             return Err(KeyRefusal::TooLong { len: bytes.len() });
         }
-        match SmallVec::from_slice(alloc, bytes) {
-            Ok(bytes) => Ok(Key { bytes }),
+        match Key::of_few(alloc, bytes) {
+            Ok(key) => Ok(key),
             Err(_) => Err(KeyRefusal::Memory),
         }
+    }
+
+    /// The key with these bytes, of which there are few enough.
+    pub fn of_few(alloc: Global, bytes: &[u8]) -> Result<Key, AllocError>
+        requires { length bytes.now ≤ 1024 }
+        ensures { IfOk result (λ key. key ≡ bytes.now) }
+    {
+        Ok(Key {
+            front: front_of(bytes),
+            bytes: SmallVec::from_slice(alloc, bytes)?,
+        })
     }
 
     /// The key's bytes.
@@ -60,8 +81,36 @@ impl Key {
     pub fn copy(&self) -> Result<Key, AllocError>
         ensures { IfOk result (λ key. key ≡ self.now) }
     {
-        let bytes = SmallVec::from_slice(*self.bytes.allocator(), self.bytes.as_slice())?;
-        Ok(Key { bytes })
+        Ok(Key {
+            front: self.front,
+            bytes: SmallVec::from_slice(*self.bytes.allocator(), self.bytes.as_slice())?,
+        })
+    }
+
+    /// What most comparisons of keys end at.
+    pub(crate) fn front(&self) -> u64 {
+        self.front
+    }
+}
+
+/// The front of a key with these bytes.
+fn front_of(bytes: &[u8]) -> u64
+    ensures { IsFront result bytes.now }
+{
+    let mut front = 0u64;
+    for place in 0..FRONT_LEN {
+        front = front * 256 + u64::from(byte_at(bytes, place));
+    }
+    front
+}
+
+/// The byte at the place, or a zero behind the end.
+fn byte_at(bytes: &[u8], place: usize) -> u8
+    ensures { result ≡ slice_index_or bytes.now place 0 }
+{
+    match bytes.get(place) {
+        Some(byte) => *byte,
+        None => 0,
     }
 }
 
@@ -79,7 +128,7 @@ impl PartialEq for Key {
     ghost laws = { partial_equiv_from_equiv nat_list_eq_equiv };
 
     fn eq(&self, other: &Self) -> bool {
-        self.bytes() == other.bytes()
+        self.front == other.front && self.bytes() == other.bytes()
     }
 }
 
@@ -107,6 +156,9 @@ impl Ord for Key {
     ghost matches_eq = { texts_ties };
 
     fn cmp(&self, other: &Self) -> Ordering {
-        self.bytes().cmp(other.bytes())
+        match self.front.cmp(&other.front) {
+            Ordering::Equal => self.bytes().cmp(other.bytes()),
+            unequal => unequal,
+        }
     }
 }

@@ -84,6 +84,40 @@ impl State {
         Ok(())
     }
 
+    /// Keeps for the key what the rule makes of what was kept for it, which a look-up finds once: what was kept,
+    /// and what is kept from then on.
+    ///
+    /// `Large` comes only where the state with an entry for the key would be too large.
+    pub fn change<F: FnOnce(Option<i64>) -> i64>(
+        &mut self,
+        key: &Key,
+        rule: F,
+    ) -> Result<(Option<i64>, i64), Short>
+        requires { F.IsAlwaysCallable rule }
+        ensures before { IfOk result (λ r. r.0 ≡ value_at self.old key.now) }
+        ensures after { IfOk result (λ r. F.post rule (value_at self.old key.now) r.1) }
+        ensures ok { IfOk result (λ r. self.new ≡ with_entry self.old key.now r.1) }
+        ensures small { IfOk result (λ r. size_by pair_key (with_entry self.old key.now r.1) < 4294967232) }
+        ensures large { result ≡ Err Short.Large → (value : ℤ) → IsLarge pair_key (with_entry self.old key.now value) }
+        ensures err { OnErr result (self.new ≡ self.old) }
+    {
+        if let Some(kept) = self.entries.get_mut(key) {
+            let before = *kept;
+            let after = rule(Some(before));
+            *kept = after;
+            return Ok((Some(before), after));
+        }
+        if self.outgrows(key) {
+            return Err(Short::Large);
+        }
+        let own = key.copy()?;
+        let more = key.bytes().len() as u64 + BESIDE_KEY;
+        let after = rule(None);
+        self.entries.insert(own, after)?;
+        self.size += more;
+        Ok((None, after))
+    }
+
     /// Whether the state with an entry for the key would be too large.
     fn outgrows(&self, key: &Key) -> bool
         ensures large { OnTrue result ((value : ℤ) → IsLarge pair_key (with_entry self.now key.now value)) }

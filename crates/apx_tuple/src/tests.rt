@@ -1,6 +1,7 @@
 // Each call once with ample memory; the values are worked by hand.
 use super::*;
 use std::alloc::Global;
+use std::cmp::Ordering;
 use std::test::Fail;
 
 // A tuple with this key and value.
@@ -46,6 +47,58 @@ fn a_key_has_up_to_1024_bytes(rt: HostRuntime) -> Result<(), Fail> {
 }
 
 #[test]
+fn keys_go_byte_by_byte(rt: HostRuntime) -> Result<(), Fail> {
+    let alloc = rt.alloc();
+    let rows: [(&[u8], &[u8], Ordering); 9] = [
+        (b"", b"", Ordering::Equal),
+        (b"", b"\0", Ordering::Less),
+        (b"a", b"a\0", Ordering::Less),
+        (b"a\0\0", b"a\0", Ordering::Greater),
+        (b"b", b"aaaaaaaaaa", Ordering::Greater),
+        (b"\x7f", b"\x80", Ordering::Less),
+        (b"same eight 1", b"same eight 2", Ordering::Less),
+        (b"same eig", b"same eight", Ordering::Less),
+        (
+            b"a key of more bytes",
+            b"a key of more bytes",
+            Ordering::Equal,
+        ),
+    ];
+    for (left, right, order) in rows {
+        let left = Key::of(alloc, left)?;
+        let right = Key::of(alloc, right)?;
+        assert_eq!(rt; left.cmp(&right), order);
+        assert_eq!(rt; left == right, order == Ordering::Equal);
+    }
+    Ok(())
+}
+
+#[test]
+fn a_copied_tuple_is_the_same(rt: HostRuntime) -> Result<(), Fail> {
+    let first = tuple(rt.alloc(), "a key of more bytes", -4)?;
+    let second = first.copy()?;
+    assert!(rt; first == second);
+    assert_eq!(rt; second.key.bytes(), b"a key of more bytes".as_slice());
+    assert_eq!(rt; second.value, -4);
+    Ok(())
+}
+
+#[test]
+fn a_change_finds_a_key_or_adds_it(rt: HostRuntime) -> Result<(), Fail> {
+    let alloc = rt.alloc();
+    let mut state = two_keys(alloc)?;
+    let raised = |old: Option<i64>| old.unwrap_or(0).wrapping_add(5);
+    for (key, before, after) in [("a", Some(2), 7), ("c", None, 5), ("c", Some(5), 10)] {
+        let key = Key::of(alloc, key.as_bytes())?;
+        let changed = state.change(&key, raised)?;
+        assert!(rt; changed == (before, after));
+        assert_eq!(rt; state.get(&key), Some(after));
+    }
+    assert_eq!(rt; state.len(), 3);
+    Ok(())
+}
+
+#[test]
 fn a_bag_ascends_and_keeps_repeats(rt: HostRuntime) -> Result<(), Fail> {
     let alloc = rt.alloc();
     let mut tuples = Vec::new(alloc);
@@ -57,8 +110,11 @@ fn a_bag_ascends_and_keeps_repeats(rt: HostRuntime) -> Result<(), Fail> {
         shown(alloc, bag.tuples())?.as_str(),
         "=7 a=-3 a=2 ab=-1 b=1 b=1 "
     );
-    let copy = bag.copy(alloc)?;
-    assert_eq!(rt; copy.into_tuples().len(), 6);
+    let again = Bag::from_ascending(bag.copy(alloc)?.into_tuples())?;
+    assert_eq!(rt;
+        shown(alloc, again.tuples())?.as_str(),
+        "=7 a=-3 a=2 ab=-1 b=1 b=1 "
+    );
     Ok(())
 }
 
