@@ -67,8 +67,8 @@ module _ (nodes : List Node) (placed : List ℕ) where
       let role = (node_at nodes i).role in
       let out : not (stands_in placed i) ≡ true = not-from (stands_in placed i) (λ e. r.unplaced (stands-contains placed i e)) in
       let fed : list_all (stands_in placed) (sources nodes i) ≡ true =
-          all-sources role (node_at nodes i).left (node_at nodes i).right (stands_in placed)
-          (λ a s. stands-from placed a (r.fed a (subst (λ (l : Link). IsSource l a) (sym (link-of-node nodes i here)) s))) in
+      all-sources role (node_at nodes i).left (node_at nodes i).right (stands_in placed)
+      (λ a s. stands-from placed a (r.fed a (subst (λ (l : Link). IsSource l a) (sym (link-of-node nodes i here)) s))) in
       rw (out, fed) refl
 
   test-ready : (i : ℕ) → i < length nodes → is_ready nodes placed i ≡ true → IsReady (sources_in nodes) placed i

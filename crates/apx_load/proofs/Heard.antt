@@ -19,4 +19,5 @@ heard_then tells files later old mid new P Q R same both first second = (
   first.0 ++ second.0,
   (λ before h. subst new (append_assoc before first.0 second.0) (second.1 (before ++ first.0) (first.1 before h))),
   (λ t. AreTold-append files first.0 second.0 (first.2 t) (subst (λ (f : List ℕ → Option (List ℕ)). AreTold f second.0) same (second.2 t))),
-  both first.0 second.0 first.3 second.3)
+  both first.0 second.0 first.3 second.3,
+)

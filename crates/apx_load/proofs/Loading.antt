@@ -72,8 +72,8 @@ module _ (tells : Bool) (told then : List ℕ → Option (List ℕ)) (old mid ne
   next_input input items is same within here so_far one_more =
       heard_then tells told then old mid new _ _ (λ answers. AreInputs (by_answers answers) (take (i + 1) nodes) items) same
       (λ first second are one. rw is (AreInputs-next (by_answers (first ++ second)) nodes i inputs input within
-        (of-inputs (by_answers first) (by_answers (first ++ second)) (by-first first second) (take i nodes) inputs are)
-        (subst (λ (n : Node). IsInputOf (by_answers (first ++ second)) n.role input) here (of-input (by_answers second) (by_answers (first ++ second)) (by-second first second) node.role input one))))
+      (of-inputs (by_answers first) (by_answers (first ++ second)) (by-first first second) (take i nodes) inputs are)
+      (subst (λ (n : Node). IsInputOf (by_answers (first ++ second)) n.role input) here (of-input (by_answers second) (by_answers (first ++ second)) (by-second first second) node.role input one))))
       so_far one_more
 
   -- a stop at one input is a stop of all
@@ -81,10 +81,10 @@ module _ (tells : Bool) (told then : List ℕ → Option (List ℕ)) (old mid ne
   stops_at_input before between now stop same later within here so_far is =
       heard_then tells told then old mid new _ _ (λ answers. IsCaused (reading_causes (IsInputsRefusal (by_answers answers) nodes) answers (Rose before now)) stop) same
       (λ first second are one. read_later (IsInputRefusal (by_answers second) node.role) (IsInputsRefusal (by_answers (first ++ second)) nodes) first second before between now stop later
-        (λ refusal refused. refused_at (by_answers (first ++ second)) nodes i inputs refusal within
-          (of-inputs (by_answers first) (by_answers (first ++ second)) (by-first first second) (take i nodes) inputs are)
-          (subst (λ (n : Node). IsInputRefusal (by_answers (first ++ second)) n.role refusal) here (of-input-refusal (by_answers second) (by_answers (first ++ second)) (by-second first second) node.role refusal refused)))
-        one)
+      (λ refusal refused. refused_at (by_answers (first ++ second)) nodes i inputs refusal within
+      (of-inputs (by_answers first) (by_answers (first ++ second)) (by-first first second) (take i nodes) inputs are)
+      (subst (λ (n : Node). IsInputRefusal (by_answers (first ++ second)) n.role refusal) here (of-input-refusal (by_answers second) (by_answers (first ++ second)) (by-second first second) node.role refusal refused)))
+      one)
       so_far is
 
   -- memory ran out behind one input

@@ -186,5 +186,5 @@ pub record AreAccepted (reading : Reading) (words : List (List ℕ)) : Type 0 wh
 pub data IsRefusal (reading : Reading) (words : List (List ℕ)) : Refusal → Type 0 where
   of_words : command_of words ≡ None → IsRefusal reading words NotACommand
   of_files :
-    (action : Action) (name : List ℕ) (refusal : Refusal) → command_of words ≡ Some (action, name) →
-    IsRefusedBy reading (reads_inputs action) name refusal → IsRefusal reading words refusal
+      (action : Action) (name : List ℕ) (refusal : Refusal) → command_of words ≡ Some (action, name) →
+      IsRefusedBy reading (reads_inputs action) name refusal → IsRefusal reading words refusal

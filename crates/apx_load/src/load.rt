@@ -35,9 +35,9 @@ pub fn application<F: Folder>(alloc: Global, files: &mut F, name: &str) -> Resul
     ensures later { F.faults files.old ≤ F.faults files.new }
     ensures heard { HasHeard F.tells (F.told files.old) (F.heard files.old) (F.heard files.new) (λ answers.
         (length answers ≡ 1) × MatchResult result
-            (λ dag. IsApplication (by_answers answers) name.now dag)
-            (IsCaused (reading_causes (IsApplicationRefusal (by_answers answers) name.now) answers
-                (Rose (F.faults files.old) (F.faults files.new))))) }
+        (λ dag. IsApplication (by_answers answers) name.now dag)
+        (IsCaused (reading_causes (IsApplicationRefusal (by_answers answers) name.now) answers
+        (Rose (F.faults files.old) (F.faults files.new))))) }
 {
     let text = read_file(alloc, files, name, MAX_APPLICATION_LEN)?;
     parse(alloc, &text)
@@ -54,9 +54,9 @@ fn read_file<F: Folder>(
     ensures later { F.faults files.old ≤ F.faults files.new }
     ensures heard { HasHeard F.tells (F.told files.old) (F.heard files.old) (F.heard files.new) (λ answers.
         (length answers ≡ 1) × MatchResult result
-            (λ bytes. by_answers answers name.now limit (Ok bytes.items))
-            (IsCaused (reading_causes (IsFileRefusal (by_answers answers) name.now limit) answers
-                (Rose (F.faults files.old) (F.faults files.new))))) }
+        (λ bytes. by_answers answers name.now limit (Ok bytes.items))
+        (IsCaused (reading_causes (IsFileRefusal (by_answers answers) name.now limit) answers
+        (Rose (F.faults files.old) (F.faults files.new))))) }
 {
     match files.read(alloc, name, limit) {
         Ok(bytes) => Ok(bytes),
@@ -93,19 +93,15 @@ fn parse(alloc: Global, text: &[u8]) -> Result<Dag, Stop>
 ///
 /// It stops at the first input, in the order of the application's file, of which a file or a line is
 /// refused, where the folder fails, and for want of memory. The folder's files stay as they are.
-pub fn inputs<F: Folder>(
-    alloc: Global,
-    files: &mut F,
-    dag: &Dag,
-) -> Result<Vec<Windows>, Stop>
+pub fn inputs<F: Folder>(alloc: Global, files: &mut F, dag: &Dag) -> Result<Vec<Windows>, Stop>
     ensures told { F.told files.new ≡ F.told files.old }
     ensures later { F.faults files.old ≤ F.faults files.new }
     ensures count { IfOk result (λ inputs. length inputs.items ≡ inputs_before dag.now (length dag.now)) }
     ensures heard { HasHeard F.tells (F.told files.old) (F.heard files.old) (F.heard files.new) (λ answers.
         MatchResult result
-            (λ inputs. AreInputs (by_answers answers) dag.now inputs.items)
-            (IsCaused (reading_causes (IsInputsRefusal (by_answers answers) dag.now) answers
-                (Rose (F.faults files.old) (F.faults files.new))))) }
+        (λ inputs. AreInputs (by_answers answers) dag.now inputs.items)
+        (IsCaused (reading_causes (IsInputsRefusal (by_answers answers) dag.now) answers
+        (Rose (F.faults files.old) (F.faults files.new))))) }
 {
     let mut inputs = Vec::new(alloc);
     for operator in 0..dag.len() {
@@ -124,9 +120,9 @@ fn input<F: Folder>(alloc: Global, files: &mut F, node: &Node) -> Result<Option<
     ensures there { IfOk result (λ input. is_some input ≡ is_input node.now.role) }
     ensures heard { HasHeard F.tells (F.told files.old) (F.heard files.old) (F.heard files.new) (λ answers.
         MatchResult result
-            (λ input. IsInputOf (by_answers answers) node.now.role input)
-            (IsCaused (reading_causes (IsInputRefusal (by_answers answers) node.now.role) answers
-                (Rose (F.faults files.old) (F.faults files.new))))) }
+        (λ input. IsInputOf (by_answers answers) node.now.role input)
+        (IsCaused (reading_causes (IsInputRefusal (by_answers answers) node.now.role) answers
+        (Rose (F.faults files.old) (F.faults files.new))))) }
 {
     match &node.role {
         Role::Input {
@@ -152,9 +148,9 @@ fn lines<F: Folder>(
     ensures later { F.faults files.old ≤ F.faults files.new }
     ensures heard { HasHeard F.tells (F.told files.old) (F.heard files.old) (F.heard files.new) (λ answers.
         MatchResult result
-            (λ input. IsInputOf (by_answers answers) (Input kind file.now per_window) (Some input))
-            (IsCaused (reading_causes (IsInputRefusal (by_answers answers) (Input kind file.now per_window)) answers
-                (Rose (F.faults files.old) (F.faults files.new))))) }
+        (λ input. IsInputOf (by_answers answers) (Input kind file.now per_window) (Some input))
+        (IsCaused (reading_causes (IsInputRefusal (by_answers answers) (Input kind file.now per_window)) answers
+        (Rose (F.faults files.old) (F.faults files.new))))) }
 {
     let text = read_file(alloc, files, file.text(), MAX_INPUT_LEN)?;
     match windows(alloc, kind, per_window, &text) {
@@ -190,9 +186,9 @@ pub fn run<F: Folder>(alloc: Global, files: &mut F, name: &str) -> Result<(Dag, 
     ensures count { IfOk result (λ run. length run.1.items ≡ inputs_before run.0 (length run.0)) }
     ensures heard { HasHeard F.tells (F.told files.old) (F.heard files.old) (F.heard files.new) (λ answers.
         MatchResult result
-            (λ run. IsAcceptedRun (by_answers answers) name.now (record { nodes = run.0; inputs = run.1.items }))
-            (IsCaused (reading_causes (IsRunRefusal (by_answers answers) name.now) answers
-                (Rose (F.faults files.old) (F.faults files.new))))) }
+        (λ run. IsAcceptedRun (by_answers answers) name.now (record { nodes = run.0; inputs = run.1.items }))
+        (IsCaused (reading_causes (IsRunRefusal (by_answers answers) name.now) answers
+        (Rose (F.faults files.old) (F.faults files.new))))) }
 {
     let dag = application(alloc, files, name)?;
     let inputs = inputs(alloc, files, &dag)?;

@@ -44,17 +44,17 @@ HasCheckedTo name answers folder output (Err stop) =
 -- and the store isn't touched; or it is run.
 pub data HasEnded (words : List (List ℕ)) (answers : List Answer) (folder : Type 0) (store : StoreChange) (output : OutputChange) (end : Result ⊤ Stop) : Type 0 where
   no_command :
-    command_of words ≡ None → end ≡ Err (Refused NotACommand) →
-    answers ≡ [] → store.same → output.after ≡ output.before →
-    HasEnded words answers folder store output end
+      command_of words ≡ None → end ≡ Err (Refused NotACommand) →
+      answers ≡ [] → store.same → output.after ≡ output.before →
+      HasEnded words answers folder store output end
   checked :
-    (name : List ℕ) → command_of words ≡ Some (Check, name) →
-    length answers ≡ 1 → store.same → HasCheckedTo name answers folder output end →
-    HasEnded words answers folder store output end
+      (name : List ℕ) → command_of words ≡ Some (Check, name) →
+      length answers ≡ 1 → store.same → HasCheckedTo name answers folder output end →
+      HasEnded words answers folder store output end
   ran :
-    (name : List ℕ) → command_of words ≡ Some (Sim, name) →
-    HasRunTo name answers folder store output end →
-    HasEnded words answers folder store output end
+      (name : List ℕ) → command_of words ≡ Some (Sim, name) →
+      HasRunTo name answers folder store output end →
+      HasEnded words answers folder store output end
 
 -- ---- what is said of files that the folder tells
 

@@ -27,8 +27,8 @@ pub record HasRun (flow : Dataflow) (store : StoreChange) (output : OutputChange
   pub stored : HasStored flow store
   -- what was printed is what was stored
   pub printed :
-    IsTrue output.tells → IsTrue store.tells → HoldsPrefix flow store.before →
-    output.after ≡ output.before ++ run_text flow
+      IsTrue output.tells → IsTrue store.tells → HoldsPrefix flow store.before →
+      output.after ≡ output.before ++ run_text flow
 
 -- what stops printing: a fault of the store or of the output
 abbrev pub printing_causes : (store output : Type 0) → Causes
@@ -51,8 +51,8 @@ pub record HasPrintedSome (flow : Dataflow) (store : StoreChange) (output : Outp
   pub stored : HasStored flow store
   -- what is printed is a front of what is stored
   pub printed :
-    IsTrue output.tells → IsTrue store.tells → HoldsPrefix flow store.before →
-    GotFront (run_text flow) output.before output.after
+      IsTrue output.tells → IsTrue store.tells → HoldsPrefix flow store.before →
+      GotFront (run_text flow) output.before output.after
 
 -- how storing and printing a dataflow's windows ends
 abbrev pub HasPassedTo : Dataflow → StoreChange → OutputChange → Result ⊤ Stop → Type 0
@@ -63,10 +63,10 @@ HasPassedTo flow store output (Err stop) = HasStoredSome flow store output stop 
 -- files that were read, as far as it came.
 pub data HasRunTo (name : List ℕ) (answers : List Answer) (folder : Type 0) (store : StoreChange) (output : OutputChange) (end : Result ⊤ Stop) : Type 0 where
   stopped_reading :
-    (stop : Stop) → end ≡ Err stop →
-    IsCaused (reading_causes (IsRunRefusal (by_answers answers) name) answers folder) stop →
-    store.same → output.after ≡ output.before →
-    HasRunTo name answers folder store output end
+      (stop : Stop) → end ≡ Err stop →
+      IsCaused (reading_causes (IsRunRefusal (by_answers answers) name) answers folder) stop →
+      store.same → output.after ≡ output.before →
+      HasRunTo name answers folder store output end
   passed :
-    (flow : Dataflow) → IsAcceptedRun (by_answers answers) name flow → HasPassedTo flow store output end →
-    HasRunTo name answers folder store output end
+      (flow : Dataflow) → IsAcceptedRun (by_answers answers) name flow → HasPassedTo flow store output end →
+      HasRunTo name answers folder store output end

@@ -41,7 +41,7 @@ fn check<F: Folder, O: Out>(
     ensures told { F.told files.new ≡ F.told files.old }
     ensures heard { HasHeard F.tells (F.told files.old) (F.heard files.old) (F.heard files.new) (λ answers.
         (length answers ≡ 1) × HasCheckedTo name.now answers (Rose (F.faults files.old) (F.faults files.new))
-            (output_change O.tells O.written O.faults out.old out.new) result) }
+        (output_change O.tells O.written O.faults out.old out.new) result) }
 {
     application(alloc, files, name)?;
     match write_all(out, b"ok\n") {
@@ -62,8 +62,8 @@ fn act<F: Folder, K: Keeper, O: Out>(
     ensures told { F.told files.new ≡ F.told files.old }
     ensures heard { HasHeard F.tells (F.told files.old) (F.heard files.old) (F.heard files.new) (λ answers.
         HasEnded (map string_bytes words.now) answers (Rose (F.faults files.old) (F.faults files.new))
-            (store_change K.tells K.stored K.last K.faults keeper.old keeper.new)
-            (output_change O.tells O.written O.faults out.old out.new) result) }
+        (store_change K.tells K.stored K.last K.faults keeper.old keeper.new)
+        (output_change O.tells O.written O.faults out.old out.new) result) }
 {
     match command(words) {
         None => Err(Stop::Refused(Refusal::NotACommand)),
@@ -93,8 +93,8 @@ pub fn apex_plain<F: Folder, K: Keeper, O: Out, E: Out>(
     // and the output left as that stop leaves them.
     ensures heard { HasHeard F.tells (F.told files.old) (F.heard files.old) (F.heard files.new) (λ answers.
         HasEnded (map string_bytes words.now) answers (Rose (F.faults files.old) (F.faults files.new))
-            (store_change K.tells K.stored K.last K.faults devices.keeper result.devices.keeper)
-            (output_change O.tells O.written O.faults out.old out.new) result.end) }
+        (store_change K.tells K.stored K.last K.faults devices.keeper result.devices.keeper)
+        (output_change O.tells O.written O.faults out.old out.new) result.end) }
 
     // Words that are no command are told so, and no others.
     ensures command { (command_of (map string_bytes words.now) ≡ None) ↔ (result.end ≡ Err (Stop.Refused Refusal.NotACommand)) }

@@ -77,7 +77,7 @@ pub(crate) fn print_all<K: Keeper, O: Out>(
     ensures last { K.last keeper.new ≡ K.last keeper.old }
     ensures written { IsTrue K.tells → windows ≤ length (K.stored keeper.old) →
         HasWritten O.tells (windows_text 1000000000 1 (take windows (K.stored keeper.old))) result
-            (O.written out.old) (O.written out.new) }
+        (O.written out.old) (O.written out.new) }
     ensures store_later { K.faults keeper.old ≤ K.faults keeper.new }
     ensures later { O.faults out.old ≤ O.faults out.new }
     ensures stop { IfErr result (IsCaused

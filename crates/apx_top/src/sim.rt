@@ -26,8 +26,8 @@ pub(crate) fn sim<F: Folder, K: Keeper, O: Out>(
     ensures told { F.told files.new ≡ F.told files.old }
     ensures heard { HasHeard F.tells (F.told files.old) (F.heard files.old) (F.heard files.new) (λ answers.
         HasRunTo name.now answers (Rose (F.faults files.old) (F.faults files.new))
-            (store_change K.tells K.stored K.last K.faults keeper.old keeper.new)
-            (output_change O.tells O.written O.faults out.old out.new) result) }
+        (store_change K.tells K.stored K.last K.faults keeper.old keeper.new)
+        (output_change O.tells O.written O.faults out.old out.new) result) }
 {
     let (dag, inputs) = run(alloc, files, name)?;
     pass(alloc, &dag, &inputs, keeper, out)

@@ -10,11 +10,13 @@ returns-in-Ok-clause-heard g c = (
   answer_of c.args.name.now c.args.limit (Ok c.in-Ok.bytes) ∷ [],
   c.in-Ok.ensures.heard,
   (λ t. (c.in-Ok.ensures.answer t, tt)),
-  (refl, (inl refl, c.in-Ok.ensures.within)))
+  (refl, (inl refl, c.in-Ok.ensures.within)),
+)
 
 pub returns-in-Err-clause-heard : goal.returns-in-Err-clause-heard
 returns-in-Err-clause-heard g c = (
   answer_of c.args.name.now c.args.limit (Err c.in-Err.refusal) ∷ [],
   c.in-Err.ensures.heard,
   (λ t. (c.in-Err.ensures.answer t, tt)),
-  (refl, read_stop c.args.name.now c.args.limit c.in-Err.refusal _ _ c.unread.ensures (λ e. c.in-Err.ensures.cause.rose (ap Err e))))
+  (refl, read_stop c.args.name.now c.args.limit c.in-Err.refusal _ _ c.unread.ensures (λ e. c.in-Err.ensures.cause.rose (ap Err e))),
+)

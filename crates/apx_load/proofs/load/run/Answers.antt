@@ -12,10 +12,12 @@ returns-in_err-inputs-clause-heard g c =
     rw (p.1, p.2)
     (heard_then g.F.Folder.tells (g.F.Folder.told c.args.files.now) (g.F.Folder.told c.application.new.files) (g.F.Folder.heard c.args.files.now) (g.F.Folder.heard c.application.new.files) (g.F.Folder.heard c.inputs.new.files) _ _ _ c.in_ok-dag.ensures.told
     (λ first second app stop. read_later (IsInputsRefusal (by_answers second) c.in_ok-dag.dag) (IsRunRefusal (by_answers (first ++ second)) c.args.name.now) first second _ _ _ c.in_err-inputs.field-0.0 c.in_ok-dag.ensures.later
-      (λ refusal is. inr (c.in_ok-dag.dag,
-        of-application (by_answers first) (by_answers (first ++ second)) (by-first first second) c.args.name.now c.in_ok-dag.dag app.1,
-        of-inputs-refusal (by_answers second) (by_answers (first ++ second)) (by-second first second) c.in_ok-dag.dag refusal is))
-      stop)
+    (λ refusal is. inr (
+      c.in_ok-dag.dag,
+      of-application (by_answers first) (by_answers (first ++ second)) (by-first first second) c.args.name.now c.in_ok-dag.dag app.1,
+      of-inputs-refusal (by_answers second) (by_answers (first ++ second)) (by-second first second) c.in_ok-dag.dag refusal is,
+    ))
+    stop)
     c.in_ok-dag.ensures.heard c.in_err-inputs.ensures.heard)
 
 pub returns-clause-heard : goal.returns-clause-heard

@@ -18,6 +18,6 @@ pub returns-clause-heard : goal.returns-clause-heard
 returns-clause-heard g c =
     heard_weaker g.F.Folder.tells (g.F.Folder.told c.args.files.now) (g.F.Folder.heard c.args.files.now) (g.F.Folder.heard c.run.new.files) _ _
     (λ answers is. passed (dataflow_of c.in_ok-dag.dag c.deref.result.now)
-      (subst (λ (inputs : List Input). IsAcceptedRun (by_answers answers) c.args.name.now (dataflow_of c.in_ok-dag.dag inputs)) (sym c.deref.ensures.value) is)
-      c.pass.ensures)
+    (subst (λ (inputs : List Input). IsAcceptedRun (by_answers answers) c.args.name.now (dataflow_of c.in_ok-dag.dag inputs)) (sym c.deref.ensures.value) is)
+    c.pass.ensures)
     c.in_ok-dag.ensures.heard
