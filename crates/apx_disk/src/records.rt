@@ -36,6 +36,11 @@ pub enum LogRefusal {
 pub type RecordsRefusal = LogRefusal;
 
 /// A list of records on a disk.
+///
+/// ```
+/// let (mut records, read) = Records::open(alloc, MemoryDisk::new(alloc, Vec::new(alloc)))?;
+/// records.add(&[8, 9])?;
+/// ```
 #[derive(Drop)]
 pub struct Records<D: Disk + Drop> {
     disk: D,

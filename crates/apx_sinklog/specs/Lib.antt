@@ -1,0 +1,4 @@
+pub mod Laws
+pub mod Logged
+pub mod Opening
+pub mod Windows
