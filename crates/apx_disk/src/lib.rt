@@ -8,6 +8,3 @@ mod records;
 pub use disk::{Disk, DiskRefusal};
 pub use memory_disk::MemoryDisk;
 pub use records::{LogRefusal, Record, Records, RecordsRefusal};
-
-#[cfg(test)]
-mod tests;

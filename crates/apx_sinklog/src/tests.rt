@@ -28,23 +28,28 @@ fn one_row(alloc: Global) -> Result<Vec<Tuple>, Fail>
     Ok(rows)
 }
 
+// A new log.
+fn new_log(alloc: Global) -> Option<SinkLog<MemoryDisk>> {
+    match SinkLog::open(alloc, MemoryDisk::new(alloc, Vec::new(alloc))) {
+        Ok(log) => Some(log),
+        Err((_disk, _refusal)) => None,
+    }
+}
+
 #[test]
 fn a_window_is_a_record(rt: HostRuntime) -> Result<(), Fail> {
     let alloc = rt.alloc();
     let rows = one_row(alloc)?;
-    match SinkLog::open(alloc, MemoryDisk::new(alloc, Vec::new(alloc))) {
-        Ok(mut log) => {
-            if log.sound() && log.last() == 0 {
-                log.commit(1, &rows)?;
-            }
-            if log.sound() && log.last() == 1 {
-                assert!(rt; log.rows(alloc, 1)? == rows);
-            }
-            assert!(rt; log.last() == 1 && log.faults() == 0);
-            assert_eq!(rt; log.close().bytes(), ONE_WINDOW.as_slice());
-        }
-        Err(_) => assert!(rt; false),
+    let mut log = new_log(alloc).ok_or(LogRefusal::Disk)?;
+    if log.sound() && log.last() == 0 {
+        log.commit(1, &rows)?;
     }
+    if log.sound() && log.last() == 1 {
+        assert!(rt; log.rows(alloc, 1)? == rows);
+    }
+    assert!(rt; log.last() == 1 && log.faults() == 0);
+    let disk = log.close();
+    assert_eq!(rt; disk.bytes(), ONE_WINDOW.as_slice());
     Ok(())
 }
 
@@ -53,7 +58,7 @@ fn opened(alloc: Global, bytes: &[u8]) -> Result<Result<u32, LogRefusal>, Fail> 
     let disk = MemoryDisk::new(alloc, bytes.to_vec(alloc)?);
     match SinkLog::open(alloc, disk) {
         Ok(log) => Ok(Ok(log.last())),
-        Err((_, refusal)) => Ok(Err(refusal)),
+        Err((_disk, refusal)) => Ok(Err(refusal)),
     }
 }
 
@@ -81,7 +86,7 @@ fn six_windows(alloc: Global, disk: MemoryDisk) -> Result<(u32, MemoryDisk), Fai
     let rows = one_row(alloc)?;
     let mut log = match SinkLog::open(alloc, disk) {
         Ok(log) => log,
-        Err((disk, _)) => return Ok((0, disk)),
+        Err((disk, _refusal)) => return Ok((0, disk)),
     };
     let mut told = 0;
     for window in 1..=6 {
