@@ -4,7 +4,7 @@ ghost use Rattle.apx_history.specs.Plan.{reads, splits as splits_act, splits_op 
 ghost use Rattle.apx_history.specs.State.{State, oper, parts, slot, IsPart, is_left, running, all_below, all_parts, all_slots, lowest, lowest_slot};
 ghost use Rattle.apx_history.specs.Enabled.{limit, is_part, at_point, at_act, due, in_tree, calm, calm_above, sources_have, readers_rc, readers_reach, greatest, advance_to, least_rc, tree_closed, rests_at, can_start, can_write, can_finish, can_save, can_advance, can_commit, can_purge, can_kill, can_repartition, can_end, can_now, can, is_status as status_at};
 ghost use Rattle.apx_history.specs.Choices.{purge_to};
-ghost use Rattle.apx_machine.specs.Asked.{meets};
+ghost use Rattle.apx_machine.specs.Asked.{meets, nearer, reader_rc};
 
 use crate::engine::Engine;
 use apx_history::{Act, Event, Line, Point};
@@ -89,7 +89,7 @@ impl Engine {
     /// The lesser of a window and that of a line, where the line is left and repartitions an operator.
     fn nearer(&self, line: usize, op: usize, limit: u32) -> u32
         requires { line < length self.now.plan.lines }
-        ensures { result ≡ cond (is_left self.now.state line && splits_at op (line_at self.now.plan line)) (min (line_at self.now.plan line).window limit) limit }
+        ensures { result ≡ nearer self.now.plan self.now.state line op limit }
     {
         let it = self.plan().line(line);
         if self.is_left(line) && splits_op(it, op) {
@@ -280,7 +280,7 @@ impl Engine {
     /// The least of a number and the recovery checkpoints of an operator's partitions, where it reads operator `op`.
     fn reader_least(&self, reader: usize, op: usize, most: u32) -> u32
         requires { reader < length self.now.state.ops }
-        ensures { result ≡ lowest (parts self.now.state reader) (λ j. cond (reads self.now.plan reader op) (slot self.now.state reader j).rc most) most }
+        ensures { result ≡ lowest (parts self.now.state reader) (reader_rc self.now.plan self.now.state reader op most) most }
     {
         if self.plan().reads(reader, op) {
             self.parts_least(reader, most)

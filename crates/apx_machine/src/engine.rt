@@ -35,11 +35,11 @@ pub(crate) struct Engine {
 }
 
 impl Model for Engine {
-    ghost use Rattle.apx_machine.specs.Machine.{Running};
+    ghost use Rattle.apx_machine.specs.Machine.{Running, state_of};
 
     ghost Value = { Running };
 
-    ghost view = { λ m. record { plan = m.plan; state = record { ops = m.ops.items; committed = m.committed; stored = m.stored; left = m.left.items; ended = m.ended; fault = m.fault } } };
+    ghost view = { λ m. record { plan = m.plan; state = state_of m.ops.items m.committed m.stored m.left.items m.ended m.fault } };
 }
 
 impl Engine {

@@ -3,7 +3,7 @@ ghost use Rattle.std.specs.Prelude.{◌≡◌, ℕ, ◌<◌, ◌||◌, Bool, con
 ghost use Rattle.apx_history.specs.Plan.{kills as kills_at};
 ghost use Rattle.apx_history.specs.State.{fresh, map_from};
 ghost use Rattle.apx_history.specs.Effects.{saves, trimmed, back};
-ghost use Rattle.apx_machine.specs.Changed.{changed};
+ghost use Rattle.apx_machine.specs.Changed.{changed, part_of, with_part, gone_back_if};
 
 use crate::conditions::kills;
 use crate::partition::{Change, Partition};
@@ -68,7 +68,7 @@ impl Group {
     /// A partition changes.
     pub(crate) fn change(&mut self, part: usize, change: Change)
         requires { part < length self.old.parts }
-        ensures { self.new ≡ record { boundary = self.old.boundary; parts = set self.old.parts part (changed change (get_or self.old.parts part (fresh 0))) } }
+        ensures { self.new ≡ with_part self.old part (changed change (part_of self.old part)) }
     {
         let it = &mut self.parts[part];
         it.change(change);
@@ -77,7 +77,7 @@ impl Group {
     /// A partition's state after a window is saved.
     pub(crate) fn save(&mut self, part: usize, window: u32) -> Result<(), AllocError>
         requires { part < length self.old.parts }
-        ensures ok { OnOk result (self.new ≡ record { boundary = self.old.boundary; parts = set self.old.parts part (saves window (get_or self.old.parts part (fresh 0))) }) }
+        ensures ok { OnOk result (self.new ≡ with_part self.old part (saves window (part_of self.old part))) }
         ensures err { OnErr result (self.new ≡ self.old) }
     {
         let it = &mut self.parts[part];
@@ -98,7 +98,7 @@ impl Group {
     /// Its partitions in the tree of a line go back to their recovery checkpoints: that which the line names as one of
     /// operator `op`, or all where `under` is set.
     pub(crate) fn go_back(&mut self, line: Line, op: usize, under: bool)
-        ensures { self.new ≡ record { boundary = self.old.boundary; parts = map_from 0 (λ i x. cond (kills_at op i line || under) (back x) x) self.old.parts } }
+        ensures { self.new ≡ gone_back_if line op under self.old }
     {
         for part in 0..self.parts.len() {
             if kills(line, op, part) || under {

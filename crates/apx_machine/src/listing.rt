@@ -1,12 +1,12 @@
 //! The list of the events to choose from.
 ghost use Rattle.std.specs.Prelude.{◌≡◌, ℕ, ◌+◌, ◌<◌, ◌≤◌, [], ◌∷◌, ◌++◌, length, IfOk};
 ghost use Rattle.std.specs.List.{filter};
-ghost use Rattle.apx_history.specs.State.{slot, parts, IsPart};
+ghost use Rattle.apx_history.specs.State.{IsPart};
 ghost use Rattle.apx_history.specs.Enabled.{can};
-ghost use Rattle.apx_history.specs.Choices.{purge_to, list_below, list_slots, lines_met, choices};
+ghost use Rattle.apx_history.specs.Choices.{purge_to, choices};
 ghost use Rattle.apx_history.specs.Kept.{Kept};
 ghost use Rattle.apx_machine.specs.Small.{IsSmall};
-ghost use Rattle.apx_machine.specs.Listed.{candidate, of_line};
+ghost use Rattle.apx_machine.specs.Listed.{candidate, of_line, of_op, of_row, of_lines};
 
 use crate::engine::Engine;
 use apx_history::Event;
@@ -112,7 +112,7 @@ impl Engine {
         requires small { IsSmall self.now.plan }
         requires kept { Kept self.now.plan self.now.state }
         requires there { op < length self.now.state.ops }
-        ensures { IfOk result (λ _. into.new.items ≡ into.old.items ++ filter (can self.now.plan self.now.state) (list_below (parts self.now.state op) (candidate self.now.plan self.now.state row op))) }
+        ensures { IfOk result (λ _. into.new.items ≡ into.old.items ++ of_op self.now.plan self.now.state row op) }
     {
         for part in 0..self.parts(op) {
             self.add(self.candidate(row, op, part), into)?;
@@ -125,7 +125,7 @@ impl Engine {
         requires every { 0 < self.now.plan.every }
         requires small { IsSmall self.now.plan }
         requires kept { Kept self.now.plan self.now.state }
-        ensures { IfOk result (λ _. into.new.items ≡ into.old.items ++ filter (can self.now.plan self.now.state) (list_slots self.now.state (candidate self.now.plan self.now.state row))) }
+        ensures { IfOk result (λ _. into.new.items ≡ into.old.items ++ of_row self.now.plan self.now.state row) }
     {
         for op in 0..self.len() {
             self.add_parts(row, op, into)?;
@@ -138,7 +138,7 @@ impl Engine {
         requires every { 0 < self.now.plan.every }
         requires small { IsSmall self.now.plan }
         requires kept { Kept self.now.plan self.now.state }
-        ensures { IfOk result (λ _. into.new.items ≡ into.old.items ++ filter (can self.now.plan self.now.state) (lines_met self.now.state (of_line row))) }
+        ensures { IfOk result (λ _. into.new.items ≡ into.old.items ++ of_lines self.now.plan self.now.state row) }
     {
         for line in 0..self.left.len() {
             self.add(event_of(row, line as u32), into)?;

@@ -79,10 +79,11 @@ pub struct Plan {
 
 impl Model for Plan {
     ghost use Rattle.apx_history.specs.Plan.{Plan as Planned};
+    ghost use Rattle.apx_machine.specs.Machine.{plan_of};
 
     ghost Value = { Planned };
 
-    ghost view = { λ p. record { windows = p.windows; every = p.every; sink = p.sink; operators = p.operators.items; lines = p.lines.items } };
+    ghost view = { λ p. plan_of p.windows p.every p.sink p.operators.items p.lines.items };
 }
 
 impl Plan {
