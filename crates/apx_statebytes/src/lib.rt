@@ -10,3 +10,5 @@ mod encoding;
 mod fault;
 mod fields;
 mod rows;
+#[cfg(test)]
+mod tests;
