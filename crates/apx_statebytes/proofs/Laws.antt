@@ -14,7 +14,7 @@ use Rattle.apx_tuple.specs.State.{Pair, pair_key, IsState}
 use Rattle.apx_tuple.specs.Tuple.{IsBag, tuple_key}
 use Rattle.apx_statebytes.specs.declared.fault.StateFault.{StateFault}
 use Rattle.apx_statebytes.specs.Rows.{tuple_of, row_of, IsRow, AreRows, AreInRow, key_may_follow, row_may_follow}
-use Rattle.apx_statebytes.specs.Spelling.{row_spelling, rows_spelling, left_rows, right_rows, first_spelling, second_spelling, progress_size, IsProgress, Spells}
+use Rattle.apx_statebytes.specs.Spelling.{row_spelling, rows_spelling, left_rows, right_rows, first_spelling, second_spelling, IsProgress, Spells}
 use Rattle.apx_statebytes.specs.Reading.{◌>>=◌, Gives, number_at, row_at, rows_at, rows_of, first_form, second_form, marked_form, progress_in}
 use Rattle.apx_statebytes.proofs.Loop.{RowsRead}
 use Rattle.apx_statebytes.proofs.Numbers.{bind_ok, passed, ok_is, Takes, Takes-then, number_takes, number_again, row_takes, row_again}

@@ -1,11 +1,11 @@
 -- The bytes of a progress, and of a state alone.
-use Rattle.std.specs.Prelude.{◌≡◌, ℕ, ◌+◌, ◌<◌, List, [], ◌∷◌, ◌++◌, length, map, ◌⊎◌}
+use Rattle.std.specs.Prelude.{◌≡◌, ℕ, ◌<◌, List, [], ◌∷◌, ◌++◌, length, map, ◌⊎◌}
 use Rattle.std.specs.List.{flat_map}
 use Rattle.std.specs.Int.{w16, w32, w64, to_be_bytes, cast_unsigned}
 use Rattle.apx_tuple.specs.declared.progress.Progress.{Progress}
-use Rattle.apx_tuple.specs.Size.{size_by}
-use Rattle.apx_tuple.specs.State.{Pair, pair_key, IsState}
-use Rattle.apx_tuple.specs.Tuple.{tuple_key, IsBag}
+use Rattle.apx_tuple.specs.Progress.{progress_size}
+use Rattle.apx_tuple.specs.State.{Pair, IsState}
+use Rattle.apx_tuple.specs.Tuple.{IsBag}
 use Rattle.apx_statebytes.specs.Rows.{row_of, AreRows}
 
 -- the length of the key, the key, and the value in two's complement
@@ -31,10 +31,6 @@ first_spelling state = rows_spelling state
 -- spelling 2: a mark, the number of the spelling, the state, and what came on the left and on the right
 abbrev pub second_spelling : Progress → List ℕ
 second_spelling g = 255 ∷ 2 ∷ (rows_spelling g.state ++ (rows_spelling (left_rows g) ++ rows_spelling (right_rows g)))
-
--- the size of a progress: of its state and of both bags
-abbrev pub progress_size : Progress → ℕ
-progress_size g = size_by pair_key g.state + (size_by tuple_key g.left + size_by tuple_key g.right)
 
 -- a progress that isn't large, of rows that have a spelling
 pub record IsProgress (g : Progress) : Type 0 where

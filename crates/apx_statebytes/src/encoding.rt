@@ -1,9 +1,10 @@
 //! Writing a progress.
 ghost use Rattle.std.specs.Prelude.{◌≡◌, ◌<◌, ◌++◌, map, OnOk, IfOk};
+ghost use Rattle.apx_tuple.specs.Progress.{progress_size};
 ghost use Rattle.apx_tuple.specs.State.{IsState};
 ghost use Rattle.apx_tuple.specs.Tuple.{IsBag};
 ghost use Rattle.apx_statebytes.specs.Rows.{row_of, IsRow, AreRows};
-ghost use Rattle.apx_statebytes.specs.Spelling.{row_spelling, rows_spelling, second_spelling, progress_size, IsProgress};
+ghost use Rattle.apx_statebytes.specs.Spelling.{row_spelling, rows_spelling, second_spelling, IsProgress};
 
 use apx_tuple::{Bag, Key, Progress, State};
 use std::alloc::{AllocError, Global};
