@@ -120,7 +120,8 @@ start_of list window =
     else None
 
 -- What a list keeps of its numbers beside its blocks, and of the blocks that its name tells.
-pub record IsKept (told : Option (List Block)) (plan : CutPlan) (floor top first : ℕ) (blocks : List Block) (from : ℕ) (starts : List ℕ) (next_start : ℕ) : Type 0 where
+pub record IsKept (told : Option (List Block)) (plan : CutPlan) (floor top first : ℕ) (blocks : List Block)
+    (from : ℕ) (starts : List ℕ) (next_start : ℕ) : Type 0 where
   pub plan_is : IsPlan plan
   pub floor_below : floor ≤ top
   pub top_below : top ≤ plan.windows

@@ -16,7 +16,8 @@ use std::alloc::{AllocError, Global};
 /// Appends the tuples of a block, in order.
 pub fn payloads(alloc: Global, block: &Block, into: &mut Vec<Tuple>) -> Result<(), AllocError>
     requires { IsBlock block.now }
-    ensures ok { (plan : CutPlan) (spells : Spells plan block.now) → OnOk result (into.new.items ≡ into.old.items ++ spells.tuples) }
+    ensures ok { (plan : CutPlan) (spells : Spells plan block.now) →
+        OnOk result (into.new.items ≡ into.old.items ++ spells.tuples) }
     ensures err { OnErr result (into.new.items ≡ into.old.items) }
 {
     owned_payloads(alloc, block, 1, 0, into)
@@ -34,7 +35,8 @@ pub fn owned_payloads(
     requires block { IsBlock block.now }
     requires low { 1 ≤ n }
     requires high { n ≤ 8 }
-    ensures ok { (plan : CutPlan) (spells : Spells plan block.now) → OnOk result (into.new.items ≡ into.old.items ++ owned n i spells.tuples) }
+    ensures ok { (plan : CutPlan) (spells : Spells plan block.now) →
+        OnOk result (into.new.items ≡ into.old.items ++ owned n i spells.tuples) }
     ensures err { OnErr result (into.new.items ≡ into.old.items) }
 {
     let before = into.len();
@@ -56,7 +58,8 @@ fn append_owned(
     requires bytes { IsSpelled bytes.now }
     requires low { 1 ≤ n }
     requires high { n ≤ 8 }
-    ensures ok { (messages : List Message) → AreMessages messages → bytes.now ≡ spellings messages → OnOk result (into.new.items ≡ into.old.items ++ owned_of n i messages) }
+    ensures ok { (messages : List Message) → AreMessages messages → bytes.now ≡ spellings messages →
+        OnOk result (into.new.items ≡ into.old.items ++ owned_of n i messages) }
     ensures some { (more : List Tuple) × (into.new.items ≡ into.old.items ++ more) }
 {
     let mut rest = bytes;
@@ -77,7 +80,8 @@ fn take_owned<'a>(
     requires bytes { Begins bytes.now }
     requires low { 1 ≤ n }
     requires high { n ≤ 8 }
-    ensures ok { (m : Message) (rest : List ℕ) → IsMessage m → bytes.now ≡ spelling m ++ rest → IfOk result (λ after. (after.now ≡ rest) × (into.new.items ≡ into.old.items ++ owned_of n i (m ∷ []))) }
+    ensures ok { (m : Message) (rest : List ℕ) → IsMessage m → bytes.now ≡ spelling m ++ rest →
+        IfOk result (λ after. (after.now ≡ rest) × (into.new.items ≡ into.old.items ++ owned_of n i (m ∷ []))) }
     ensures some { OnOk result ((more : List Tuple) × (into.new.items ≡ into.old.items ++ more)) }
     ensures err { OnErr result (into.new.items ≡ into.old.items) }
 {
@@ -91,7 +95,9 @@ fn take_owned<'a>(
 fn len_of_others(bytes: &[u8], n: u8, i: u8) -> Option<usize>
     requires low { 1 ≤ n }
     requires high { n ≤ 8 }
-    ensures { (m : Message) (rest : List ℕ) → IsMessage m → bytes.now ≡ spelling m ++ rest → MatchOption result (owned_of n i (m ∷ []) ≡ tuples_of (m ∷ [])) (λ len. (owned_of n i (m ∷ []) ≡ []) × (len ≡ length (spelling m))) }
+    ensures { (m : Message) (rest : List ℕ) → IsMessage m → bytes.now ≡ spelling m ++ rest →
+        MatchOption result (owned_of n i (m ∷ []) ≡ tuples_of (m ∷ []))
+        (λ len. (owned_of n i (m ∷ []) ≡ []) × (len ≡ length (spelling m))) }
 {
     let (number, len) = payload_number(bytes)?;
     if owner_by_number(n, number) == i {
@@ -107,7 +113,8 @@ fn take_message<'a>(
     into: &mut Vec<Tuple>,
 ) -> Result<&'a [u8], AllocError>
     requires { Begins bytes.now }
-    ensures ok { (m : Message) (rest : List ℕ) → IsMessage m → bytes.now ≡ spelling m ++ rest → IfOk result (λ after. (after.now ≡ rest) × (into.new.items ≡ into.old.items ++ tuples_of (m ∷ []))) }
+    ensures ok { (m : Message) (rest : List ℕ) → IsMessage m → bytes.now ≡ spelling m ++ rest →
+        IfOk result (λ after. (after.now ≡ rest) × (into.new.items ≡ into.old.items ++ tuples_of (m ∷ []))) }
     ensures some { OnOk result ((more : List Tuple) × (into.new.items ≡ into.old.items ++ more)) }
     ensures err { OnErr result (into.new.items ≡ into.old.items) }
 {
@@ -121,7 +128,8 @@ fn take_message<'a>(
 // The message that the bytes begin with, and the bytes behind it.
 fn first(alloc: Global, bytes: &[u8]) -> Result<(Message, &[u8]), AllocError>
     requires { Begins bytes.now }
-    ensures { (m : Message) (rest : List ℕ) → IsMessage m → bytes.now ≡ spelling m ++ rest → IfOk result (λ found. (found.0 ≡ m) × (found.1.now ≡ rest)) }
+    ensures { (m : Message) (rest : List ℕ) → IsMessage m → bytes.now ≡ spelling m ++ rest →
+        IfOk result (λ found. (found.0 ≡ m) × (found.1.now ≡ rest)) }
 {
     let (message, len) = first_of(alloc, bytes)?;
     Ok((message, &bytes[len..]))
@@ -130,7 +138,8 @@ fn first(alloc: Global, bytes: &[u8]) -> Result<(Message, &[u8]), AllocError>
 // The message that the bytes begin with, and how many of them it has.
 fn first_of(alloc: Global, bytes: &[u8]) -> Result<(Message, usize), AllocError>
     requires { Begins bytes.now }
-    ensures only { (m : Message) (rest : List ℕ) → IsMessage m → bytes.now ≡ spelling m ++ rest → IfOk result (λ found. (found.0 ≡ m) × (found.1 ≡ length (spelling m))) }
+    ensures only { (m : Message) (rest : List ℕ) → IsMessage m → bytes.now ≡ spelling m ++ rest →
+        IfOk result (λ found. (found.0 ≡ m) × (found.1 ≡ length (spelling m))) }
     ensures within { IfOk result (λ found. found.1 ≤ length bytes.now) }
 {
     match first_message(alloc, 0, bytes) {

@@ -23,7 +23,8 @@ pub fn first_message(
 
     // What is read is spelled so, and what is spelled so is read, whatever follows it.
     ensures found { IfOk result (λ found. IfSome found (λ x. BeginsWith bytes.now x.0 x.1)) }
-    ensures only { (m : Message) (rest : List ℕ) → IsMessage m → bytes.now ≡ spelling m ++ rest → GivesMessage result (Ok (Some (m, length (spelling m)))) }
+    ensures only { (m : Message) (rest : List ℕ) → IsMessage m → bytes.now ≡ spelling m ++ rest →
+        GivesMessage result (Ok (Some (m, length (spelling m)))) }
 {
     judge(alloc, place, bytes)
 }
