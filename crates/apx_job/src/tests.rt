@@ -1,0 +1,134 @@
+//! Scripts that a job accepts, and each beside those one change away that it refuses.
+
+use crate::Job;
+use crate::parts::{inputs_before, is_input};
+use apx_dag::Dag;
+use apx_input::windows;
+use apx_json::read_app;
+use apx_script::{ScriptRefusal, Settings, read_script};
+use apx_tuple::InputKind;
+use std::alloc::Global;
+use std::test::Fail;
+
+/// Lines that two partitions split into words, which are counted and stored.
+const WORD_COUNT: &str =
+    r#"{"operators":[{"name":"in","class":"lines","properties":{"file":"in.txt","perWindow":1}},{"name":"split","class":"words","attributes":{"PARTITIONS":2}},{"name":"tally","class":"count"},{"name":"out","class":"store"}],"streams":[{"name":"a","source":{"operatorName":"in","portName":"output"},"sinks":[{"operatorName":"split","portName":"input"}]},{"name":"b","source":{"operatorName":"split","portName":"output"},"sinks":[{"operatorName":"tally","portName":"input"}]},{"name":"c","source":{"operatorName":"tally","portName":"output"},"sinks":[{"operatorName":"out","portName":"input"}]}]}"#;
+
+/// The job of six windows and a script, with a checkpoint each second window; or the refused line and its reason.
+fn job_of(alloc: Global, script: &str) -> Result<Result<Job, (u64, u8)>, Fail> {
+    let dag = Dag::of(alloc, read_app(alloc, WORD_COUNT.as_bytes())?)?;
+    let mut inputs = Vec::new(alloc);
+    inputs.push(windows(alloc, InputKind::Lines, 1, b"a\nb\nc\nd\ne\nf\n")?)?;
+    let mut settings = Settings::default();
+    settings.every = 2;
+    if inputs.len() != inputs_before(&dag, dag.len()) {
+        return Err("another number of inputs")?;
+    }
+    match Job::of(
+        alloc,
+        dag,
+        inputs,
+        read_script(alloc, script.as_bytes())?,
+        settings,
+    ) {
+        Ok(job) => Ok(Ok(job)),
+        Err(ScriptRefusal::Line { line, why }) => Ok(Err((line, why))),
+        Err(ScriptRefusal::Memory) => Err("memory")?,
+    }
+}
+
+/// A script's first refused line with its reason, or nothing where the job accepts it.
+fn refused(alloc: Global, script: &str) -> Result<Option<(u64, u8)>, Fail> {
+    Ok(job_of(alloc, script)?.err())
+}
+
+#[test]
+fn each_reason_has_an_accepted_case_beside_it(rt: HostRuntime) -> Result<(), Fail> {
+    for (accepted, refusal, line, why) in [
+        ("kill done 1 0 tally\n", "kill done 1 0 tallies\n", 1, 3),
+        ("kill done 6 0 tally\n", "kill done 7 0 tally\n", 1, 4),
+        ("kill done 1 0 tally\n", "kill done 0 0 tally\n", 1, 4),
+        ("repartition 4 3 tally\n", "repartition 3 3 tally\n", 1, 5),
+        ("repartition 4 8 tally\n", "repartition 4 9 tally\n", 1, 6),
+        ("repartition 4 1 tally\n", "repartition 4 0 tally\n", 1, 6),
+        ("repartition 4 3 tally\n", "repartition 4 3 in\n", 1, 7),
+        ("repartition 4 3 tally\n", "repartition 4 3 out\n", 1, 7),
+        (
+            "repartition 2 3 tally\nrepartition 4 3 tally\n",
+            "repartition 4 2 tally\nrepartition 4 3 tally\n",
+            2,
+            8,
+        ),
+        ("kill written 2 0 out\n", "kill written 2 0 tally\n", 1, 10),
+        ("kill done 1 1 split\n", "kill done 1 2 split\n", 1, 9),
+        (
+            "repartition 2 3 split\n\nkill done 3 2 split\n",
+            "repartition 2 3 split\n\nkill done 2 2 split\n",
+            3,
+            9,
+        ),
+    ] {
+        assert_eq!(rt; refused(rt.alloc(), accepted)?, None, "at {accepted}");
+        assert_eq!(rt;
+            refused(rt.alloc(), refusal)?,
+            Some((line, why)),
+            "at {refusal}"
+        );
+    }
+    Ok(())
+}
+
+#[test]
+fn parts_are_judged_last(rt: HostRuntime) -> Result<(), Fail> {
+    let script = "kill done 1 2 split\nkill written 2 0 tally\n";
+    assert_eq!(rt; refused(rt.alloc(), script)?, Some((2, 10)));
+    Ok(())
+}
+
+/// The boundary and the number of partitions of an operator at a window, where there are both.
+fn epoch(job: &Job, op: u16, window: u32) -> Option<(u32, u8)> {
+    if op < job.dag().len() && 1 <= window && window <= job.windows() {
+        Some((job.boundary(op, window), job.in_force(op, window)))
+    } else {
+        None
+    }
+}
+
+/// How many tuples an input has in a window.
+fn tuple_count(job: &Job, op: u16, window: u32) -> Result<Option<usize>, Fail> {
+    if op < job.dag().len() && is_input(job.dag().node(op)) {
+        return Ok(Some(job.bag(op, window)?.tuples().len()));
+    }
+    Ok(None)
+}
+
+#[test]
+fn a_repartition_begins_an_epoch(rt: HostRuntime) -> Result<(), Fail> {
+    let alloc = rt.alloc();
+    let job = job_of(alloc, "repartition 4 1 split\nrepartition 2 3 split\n")?.map_err(
+        |_| "refused",
+    )?;
+    assert_eq!(rt; job.windows(), 6);
+    assert_eq!(rt; job.dag().len(), 4);
+    assert_eq!(rt; job.lines().len(), 2);
+    assert_eq!(rt; job.settings().every, 2);
+    for (window, boundary, parts) in [
+        (1, 0, 2),
+        (2, 0, 2),
+        (3, 2, 3),
+        (4, 2, 3),
+        (5, 4, 1),
+        (6, 4, 1),
+    ] {
+        assert_eq!(rt;
+            epoch(&job, 1, window),
+            Some((boundary, parts)),
+            "at {window}"
+        );
+        assert_eq!(rt; epoch(&job, 2, window), Some((0, 1)), "at {window}");
+    }
+    for (window, tuples) in [(1, 1), (6, 1), (7, 0)] {
+        assert_eq!(rt; tuple_count(&job, 0, window)?, Some(tuples), "at {window}");
+    }
+    Ok(())
+}
