@@ -8,5 +8,3 @@ pub use pass::OnePass;
 mod gather;
 mod operator;
 mod pass;
-#[cfg(test)]
-mod tests;
