@@ -12,7 +12,9 @@ use Rattle.std.specs.Cmp.{IsTotalOrder}
 
 -- a total order that calls equal only what is the same
 pub record IsExact {X : Type 0} (cmp : X → X → Ordering) : Type 0 where
+  -- it is total
   pub total : IsTotalOrder cmp
+  -- members that are called equal are the same
   pub tight : (x y : X) → cmp x y ≡ Equal → x ≡ y
 
 module _ {X : Type 0} (cmp : X → X → Ordering) where
