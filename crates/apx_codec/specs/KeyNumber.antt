@@ -11,9 +11,13 @@ hash_of key = hash_from 0 key
 
 -- m is the least number of the form 2 ^ b - 1 with 2 ^ b at least n.
 pub record IsMask (n m : ℕ) : Type 0 where
+  -- the exponent
   pub bits : ℕ
+  -- the mask is one less than its power of two
   pub form : m + 1 ≡ 2 ^ bits
+  -- the power is at least n
   pub reaches : n ≤ 2 ^ bits
+  -- no lesser power of two is
   pub least : (b : ℕ) → n ≤ 2 ^ b → m + 1 ≤ 2 ^ b
 
 -- The mask of 1 to 8 partitions.
