@@ -6,4 +6,7 @@ use Rattle.apx_rules.specs.Step.{rank_order}
 
 -- the order by rank is total (a proof that a type needs)
 pub rank_order-total : IsTotalOrder rank_order
-rank_order-total = then_total (on_total (λ (t : Tuple). t.value) (back_total int_cmp_total)) (on_total (λ (t : Tuple). t.key) nat_list_cmp_total)
+rank_order-total =
+    then_total
+    (on_total (λ (t : Tuple). t.value) (back_total int_cmp_total))
+    (on_total (λ (t : Tuple). t.key) nat_list_cmp_total)

@@ -11,7 +11,9 @@ use Rattle.apx_tuple.specs.declared.tuple.Tuple.{Tuple}
 
 -- the entry that the key has from then on, and the tuples that are emitted of it
 pub record Outcome : Type 0 where
+  -- the entry, if the key has one
   pub entry : Option ℤ
+  -- the tuples, in the order of the values
   pub emitted : List Tuple
 
 -- a tuple of the key for each value
@@ -47,7 +49,8 @@ words_of key = filter (λ word. not (length word == 0)) (cut_at_blanks key)
 
 -- Passes on the tuples whose value is from `min` to `max`.
 abbrev pub keep_rule : ℤ → ℤ → List ℕ → List ℤ → Outcome
-keep_rule min max key lefts = record { entry = None; emitted = tuples_of key (filter (λ value. int_le min value && int_le value max) lefts) }
+keep_rule min max key lefts =
+    record { entry = None; emitted = tuples_of key (filter (λ value. int_le min value && int_le value max) lefts) }
 
 -- Multiplies each value by the factor.
 abbrev pub scale_rule : ℤ → List ℕ → List ℤ → Outcome
@@ -55,7 +58,8 @@ scale_rule factor key lefts = record { entry = None; emitted = tuples_of key (ma
 
 -- Emits each word of the key, with each of its values.
 abbrev pub words_rule : List ℕ → List ℤ → Outcome
-words_rule key lefts = record { entry = None; emitted = flat_map (λ value. map (λ word. record { key = word; value = value }) (words_of key)) lefts }
+words_rule key lefts =
+    record { entry = None; emitted = flat_map (λ value. map (λ word. record { key = word; value = value }) (words_of key)) lefts }
 
 -- Cuts the key to its first bytes.
 abbrev pub prefix_rule : ℕ → List ℕ → List ℤ → Outcome
@@ -89,7 +93,8 @@ peak_rule key old (value ∷ values) =
 -- Emits the least value of a key that came for the first time.
 abbrev pub first_rule : List ℕ → Option ℤ → List ℤ → Outcome
 first_rule key old [] = record { entry = old; emitted = [] }
-first_rule key old (value ∷ values) = record { entry = Some (pos 1); emitted = cond (is_some old) [] (record { key = key; value = value } ∷ []) }
+first_rule key old (value ∷ values) =
+    record { entry = Some (pos 1); emitted = cond (is_some old) [] (record { key = key; value = value } ∷ []) }
 
 -- Adds up the values, and at each window that is a multiple of `every` emits the sum and forgets it.
 abbrev pub tumble_rule : ℕ → ℕ → List ℕ → Option ℤ → List ℤ → Outcome

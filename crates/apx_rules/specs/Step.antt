@@ -14,7 +14,9 @@ use Rattle.apx_rules.specs.Rule.{Outcome, rule}
 
 -- the state from then on, and the rows, which are a bag
 pub record Stepped : Type 0 where
+  -- the entries by their keys, in ascending order
   pub state : List Pair
+  -- the rows as a bag
   pub rows : List Tuple
 
 -- the values of the tuples with the key
