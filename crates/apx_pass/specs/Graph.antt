@@ -12,16 +12,24 @@ pub data Role : Type 0 where
 -- An operator. `left` and `right` are the numbers of the operators that its ports read, its own number
 -- where it has no such port. It steps once for each `app_windows` windows, over all that came in them.
 pub record Node : Type 0 where
+  -- its name
   pub name : List ℕ
+  -- what it does
   pub role : Role
+  -- how many partitions it has
   pub partitions : ℕ
+  -- the operator that the left port reads
   pub left : ℕ
+  -- the operator that the right port reads
   pub right : ℕ
+  -- how many windows go into one step
   pub app_windows : ℕ
 
 -- the operator with a number, from 0; past the last one, a sink without a name
 abbrev pub node_at : List Node → ℕ → Node
-node_at nodes number = slice_index_or nodes number (record { name = []; role = Sink; partitions = 1; left = number; right = number; app_windows = 1 })
+node_at nodes number =
+    slice_index_or nodes number
+    (record { name = []; role = Sink; partitions = 1; left = number; right = number; app_windows = 1 })
 
 -- whether an operator is an input
 abbrev pub is_input : Role → Bool

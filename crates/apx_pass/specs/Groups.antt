@@ -14,8 +14,11 @@ use Rattle.apx_pass.specs.Pairs.{tuple_of}
 
 -- what an input operator reads: how lines become tuples, how many lines make a window, and the lines of its file
 pub record Input : Type 0 where
+  -- how a line becomes a tuple
   pub kind : InputKind
+  -- how many lines make a window
   pub per_window : ℕ
+  -- the lines of the file
   pub lines : List (List ℕ)
 
 -- what an operator reads from the bytes of a file
@@ -42,7 +45,9 @@ pub data Cause : Type 0 where
 
 -- a refused line, by its number, and the cause
 pub record Refused : Type 0 where
+  -- the number of the line
   pub line : ℕ
+  -- why it is refused
   pub cause : Cause
 
 -- the first of the causes that holds of the line with this number
@@ -54,7 +59,8 @@ cause_of kind per_window number line =
 
 -- a line refused for its cause, if it is refused
 unfoldable pub refused_at : InputKind → ℕ → ℕ → List ℕ → Option Refused
-refused_at kind per_window number line = option_map (λ cause. record { line = number; cause = cause }) (cause_of kind per_window number line)
+refused_at kind per_window number line =
+    option_map (λ cause. record { line = number; cause = cause }) (cause_of kind per_window number line)
 
 -- the first refused one of some lines, which are numbered from `number` on
 unfoldable pub first_refused_from : InputKind → ℕ → ℕ → List (List ℕ) → Option Refused
@@ -68,6 +74,9 @@ first_refused input = first_refused_from input.kind input.per_window 1 input.lin
 
 -- what each accepted input is: a window has 1 to 1,000,000 lines, and no line is refused
 pub record IsInput (input : Input) : Type 0 where
+  -- a window has a line or more
   pub low : 1 ≤ input.per_window
+  -- and not too many
   pub high : input.per_window ≤ 1000000
+  -- no line is refused
   pub accepted : first_refused input ≡ None

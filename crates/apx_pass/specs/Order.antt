@@ -44,7 +44,9 @@ is_ready nodes placed o = not (stands_in placed o) && list_all (stands_in placed
 -- so many more places behind those that are filled: in each stands the earliest operator of the file that is ready
 unfoldable pub order_behind : ℕ → List Node → List ℕ → List ℕ
 order_behind zero nodes placed = []
-order_behind (suc places) nodes placed = option_map_or (λ o. o ∷ order_behind places nodes (placed ++ o ∷ [])) (find (is_ready nodes placed) (range_with_len 0 (length nodes))) []
+order_behind (suc places) nodes placed =
+    option_map_or (λ o. o ∷ order_behind places nodes (placed ++ o ∷ []))
+    (find (is_ready nodes placed) (range_with_len 0 (length nodes))) []
 
 -- all operators, each behind those that it reads: at each place the earliest of the file whose sources are placed
 abbrev pub order_of : List Node → List ℕ
@@ -62,13 +64,20 @@ EachSource P node = OfPorts node.role (P node.left) (P node.right)
 
 -- an operator stands in the order before place k
 pub record IsBefore (order : List ℕ) (k : ℕ) (operator : ℕ) : Type 0 where
+  -- where it stands
   pub place : ℕ
+  -- that is before place k
   pub earlier : place < k
+  -- the operator stands there
   pub is : slice_index order place ≡ operator
 
 -- the order has every operator, each once, and each behind those that it reads
 pub record IsOrder (nodes : List Node) (order : List ℕ) : Type 0 where
+  -- there are as many places as operators
   pub long : length order ≡ length nodes
+  -- at each place stands an operator
   pub known : (k : ℕ) → k < length order → slice_index order k < length nodes
+  -- each operator stands at a place
   pub whole : (operator : ℕ) → operator < length nodes → IsBefore order (length order) operator
+  -- those that it reads stand before it
   pub behind : (k : ℕ) → k < length order → EachSource (IsBefore order k) (node_at nodes (slice_index order k))

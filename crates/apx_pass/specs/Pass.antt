@@ -19,7 +19,9 @@ use Rattle.apx_pass.specs.Groups.{Input, groups, window_bag}
 
 -- an application with what its inputs read, in the order of the file
 pub record Dataflow : Type 0 where
+  -- the operators
   pub nodes : List Node
+  -- what each input operator reads
   pub inputs : List Input
 
 -- what an operator carries at the start: nothing
@@ -28,7 +30,9 @@ at_start = record { state = []; left = []; right = [] }
 
 -- what an operator carries on from a window, and what it gives in it
 pub record Passed : Type 0 where
+  -- what it carries on
   pub progress : Progress
+  -- what it gives
   pub rows : List Tuple
 
 -- An inner operator gathers what comes. At each window that is a multiple of `app_windows` it steps over
@@ -57,8 +61,10 @@ rows_of_input (Some input) w = window_bag input w
 
 -- an input gives its window, and the sink what reaches it; they carry nothing
 unfoldable pub pass_role : Role → ℕ → Option Input → ℕ → Progress → List Tuple → List Tuple → Passed
-pass_role (graph.Input kind file per_window) app_windows input w progress left right = record { progress = at_start; rows = rows_of_input input w }
-pass_role (graph.Inner kind) app_windows input w progress left right = gather kind app_windows w progress left (cond (has_right kind) right [])
+pass_role (graph.Input kind file per_window) app_windows input w progress left right =
+    record { progress = at_start; rows = rows_of_input input w }
+pass_role (graph.Inner kind) app_windows input w progress left right =
+    gather kind app_windows w progress left (cond (has_right kind) right [])
 pass_role graph.Sink app_windows input w progress left right = record { progress = at_start; rows = left }
 
 -- what an operator makes of a window, by its role
@@ -71,7 +77,9 @@ unfoldable pub pass_within : ℕ → Dataflow → ℕ → (ℕ → Progress) →
 pass_within zero flow w before o = record { progress = at_start; rows = [] }
 pass_within (suc streams) flow w before o =
     let node = node_at flow.nodes o in
-    pass_node node (input_at flow o) w (before o) (pass_within streams flow w before node.left).rows (pass_within streams flow w before node.right).rows
+    pass_node node (input_at flow o) w (before o)
+    (pass_within streams flow w before node.left).rows
+    (pass_within streams flow w before node.right).rows
 
 -- what operator o makes of window w, from what each operator carries into it
 abbrev pub pass_window : Dataflow → ℕ → (ℕ → Progress) → ℕ → Passed

@@ -15,7 +15,10 @@ rows_text rows = flat_map row_text rows
 
 -- the line over a window's rows: its ordinal, its identifier over a base second, and how many rows it has
 unfoldable pub head_text : ℕ → ℕ → ℕ → List ℕ
-head_text base w rows = codes "window " ++ (decimal w ++ (codes " " ++ (decimal (identifier_of base w) ++ (codes " " ++ (decimal rows ++ codes "\n")))))
+head_text base w rows =
+    codes "window " ++ (decimal w
+    ++ (codes " " ++ (decimal (identifier_of base w)
+    ++ (codes " " ++ (decimal rows ++ codes "\n")))))
 
 -- a window's text: the line over it and its rows
 unfoldable pub window_text : ℕ → ℕ → List Tuple → List ℕ
