@@ -1,4 +1,5 @@
 //! The applications of the folder examples/, from the text of their files, with the rows that their pages show.
+//! `tools/examples` checks that these are the texts.
 use super::*;
 use apx_device::{MemoryFolder, MemoryKeeper, MemoryOut};
 use std::alloc::{AllocError, Global};
@@ -77,10 +78,10 @@ fn example_top_pages(rt: HostRuntime) -> Result<(), Fail> {
 "#;
     let inputs = [(
         "hits.txt",
-        "/home\t1\n/docs\t1\n/home\t1\n/about\t1\n/blog\t1\n/docs\t1\n/blog\t1\n/blog\t1\n/docs\t1\n/home\t1\n/blog\t1\n/flows\t1\n/flows\t1\n/about\t1\n",
+        "/home\t1\n/docs\t1\n/home\t1\n/about\t1\n/blog\t1\n/docs\t1\n/blog\t1\n/blog\t1\n/docs\t1\n/home\t1\n/blog\t1\n/jobs\t1\n/jobs\t1\n/about\t1\n",
     )];
     let rows =
-        "window 1 4294967296000000000 3\n/about\t1\n/docs\t2\n/home\t2\nwindow 2 4294967296000000001 3\n/blog\t4\n/docs\t3\n/home\t3\nwindow 3 4294967296000000002 2\n/about\t2\n/flows\t2\n";
+        "window 1 4294967296000000000 3\n/about\t1\n/docs\t2\n/home\t2\nwindow 2 4294967296000000001 3\n/blog\t4\n/docs\t3\n/home\t3\nwindow 3 4294967296000000002 2\n/about\t2\n/jobs\t2\n";
     expect_rows(&rt, rt.alloc(), app, &inputs, rows)
 }
 
