@@ -4,7 +4,7 @@ ghost use Rattle.apx_rules.specs.Rule.{keep_rule, scale_rule, prefix_rule, total
 ghost use Rattle.apx_step.specs.Walk.{values, open_rule, emitted_of_passing};
 
 use crate::words::emit_words;
-use apx_tuple::{Key, KeyRefusal, Kind, Tuple};
+use apx_tuple::{Key, Kind, Tuple};
 use std::alloc::{AllocError, Global};
 
 /// Adds a tuple to those that are emitted.
@@ -105,18 +105,6 @@ fn greatest(old: Option<i64>, tuples: &[Tuple]) -> Option<i64>
     peak
 }
 
-/// The key with these bytes, of which there are few enough.
-pub(crate) fn key_of(alloc: Global, bytes: &[u8]) -> Result<Key, AllocError>
-    requires { length bytes.now ≤ 1024 }
-    ensures { IfOk result (λ key. key ≡ bytes.now) }
-{
-    match Key::of(alloc, bytes) {
-        Ok(key) => Ok(key),
-        Err(KeyRefusal::Memory) => Err(AllocError),
-        Err(KeyRefusal::TooLong { .. }) => unreachable!(),
-    }
-}
-
 /// Emits the tuples with the key cut to its first `len` bytes.
 fn emit_cut(
     alloc: Global,
@@ -128,7 +116,7 @@ fn emit_cut(
     ensures { OnOk result (emitted.new.items ≡ emitted.old.items ++ (prefix_rule len key.now (values tuples.now)).emitted) }
 {
     let bytes = key.bytes();
-    let cut = key_of(alloc, &bytes[..bytes.len().min(len as usize)])?;
+    let cut = Key::of_few(alloc, &bytes[..bytes.len().min(len as usize)])?;
     emit_as(&cut, tuples, emitted)
 }
 

@@ -3,7 +3,6 @@ ghost use Rattle.std.specs.Prelude.{◌≡◌, ◌≤◌, ◌++◌, length, OnOk
 ghost use Rattle.apx_rules.specs.Rule.{words_of};
 ghost use Rattle.apx_step.specs.Words.{is_blank, first_word, past_word, unless_empty, with_value};
 
-use crate::rules::key_of;
 use apx_tuple::{Key, Tuple};
 use std::alloc::{AllocError, Global};
 
@@ -41,7 +40,7 @@ fn emit_word(
         return Ok(());
     }
     emitted.push(Tuple {
-        key: key_of(alloc, word)?,
+        key: Key::of_few(alloc, word)?,
         value,
     })?;
     Ok(())

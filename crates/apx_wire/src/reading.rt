@@ -8,7 +8,7 @@ ghost use Rattle.apx_wire.specs.Judging.{judged, payload_judged, payload_head, h
 use crate::fault::WireFault;
 use crate::message::Message;
 use apx_codec::hash;
-use apx_tuple::{Key, KeyRefusal, Tuple};
+use apx_tuple::{Key, Tuple};
 use std::alloc::Global;
 
 /// The message at the front of the bytes and how many of them it has, for bytes that begin with a
@@ -130,9 +130,8 @@ fn make_key(alloc: Global, bytes: &[u8]) -> Result<Key, WireFault>
     ensures ok { IfOk result (λ key. key ≡ bytes.now) }
     ensures err { IfErr result (λ fault. fault ≡ WireFault.Memory) }
 {
-    match Key::of(alloc, bytes) {
+    match Key::of_few(alloc, bytes) {
         Ok(key) => Ok(key),
-        Err(KeyRefusal::TooLong { .. }) => unreachable!(),
-        Err(KeyRefusal::Memory) => Err(WireFault::Memory),
+        Err(_) => Err(WireFault::Memory),
     }
 }
