@@ -13,14 +13,15 @@ ghost use Rattle.apx_dag.specs.Ports.{link_of, links_of};
 ghost use Rattle.apx_dag.specs.Rules.{operator_name};
 ghost use Rattle.apx_dag.specs.Valid.{IsGraph};
 
+use crate::known::{KnownApp, KnownOperator};
 use crate::link::Link;
 use crate::node::Node;
 use crate::order::{first_loop, order};
 use crate::port::links;
 use crate::refusal::AppRefusal;
-use crate::role::{Role, operator_role, whole};
+use crate::role::{Role, whole};
 use crate::rules::{after_cycles, before_cycles};
-use apx_json::{AppText, OperatorText};
+use apx_json::AppText;
 use indexmap::IndexMap;
 use std::alloc::{AllocError, Global};
 use std::marker::Model;
@@ -48,19 +49,20 @@ impl Model for Dag {
     ghost invariant = { λ d. IsDag d.nodes.entries d.order.items };
 }
 
-fn node(alloc: Global, i: usize, operator: &OperatorText, link: Link) -> Result<Node, AllocError>
+fn node(i: usize, operator: &KnownOperator, link: Link) -> Result<Node, AllocError>
     requires here { i < 16 }
     requires left { IfSome link.left (λ a. a < 16) }
     requires right { IfSome link.right (λ a. a < 16) }
     ensures { IfOk result (λ node. node ≡ node_by i operator.now link) }
 {
+    let text = operator.written();
     Ok(Node {
-        name: operator.name.copy()?,
-        role: operator_role(alloc, operator)?.unwrap_or(Role::Sink),
-        partitions: whole(operator.partitions, 1, 8).unwrap_or(1) as u8,
+        name: text.name.copy()?,
+        role: operator.role()?.unwrap_or(Role::Sink),
+        partitions: whole(text.partitions, 1, 8).unwrap_or(1) as u8,
         left: number(i, link.left),
         right: number(i, link.right),
-        app_windows: whole(operator.app_windows, 1, 20_000).unwrap_or(1),
+        app_windows: whole(text.app_windows, 1, 20_000).unwrap_or(1),
     })
 }
 
@@ -77,7 +79,7 @@ fn number(own: usize, source: Option<usize>) -> u16
 /// number hold.
 fn nodes(
     alloc: Global,
-    app: &AppText,
+    app: &KnownApp,
     links: &[Link],
 ) -> Result<IndexMap<Vec<u8>, Node>, AllocError>
     requires few { length app.now.operators ≤ 16 }
@@ -88,8 +90,8 @@ fn nodes(
 {
     let mut nodes = IndexMap::new(alloc);
     for (i, operator) in app.operators.iter().enumerate() {
-        let node = node(alloc, i, operator, links[i])?;
-        let name = Vec::from_slice(alloc, operator.name.text().as_bytes())?;
+        let node = node(i, operator, links[i])?;
+        let name = Vec::from_slice(alloc, operator.written().name.text().as_bytes())?;
         nodes.insert(name, node)?;
     }
     Ok(nodes)
@@ -127,12 +129,19 @@ impl Dag {
     pub fn of(alloc: Global, app: AppText) -> Result<Dag, AppRefusal>
         ensures { Answers app result }
     {
+        Dag::of_known(alloc, KnownApp::of(alloc, app)?)
+    }
+
+    /// The graph of an application of which each class and role is looked up, or the first broken rule.
+    fn of_known(alloc: Global, app: KnownApp) -> Result<Dag, AppRefusal>
+        ensures { Answers app result }
+    {
         before_cycles(alloc, &app)?;
         let links = links(alloc, &app)?;
         if let Some(i) = first_loop(alloc, &links)? {
             return Err(AppRefusal::Refused {
                 code: 8,
-                place: app.operators[i].name.copy()?,
+                place: app.operators[i].written().name.copy()?,
             });
         }
         after_cycles(alloc, &app)?;

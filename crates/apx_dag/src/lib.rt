@@ -4,6 +4,7 @@
 
 mod class;
 mod dag;
+mod known;
 mod link;
 mod names;
 mod node;

@@ -5,7 +5,8 @@ ghost use Rattle.std.specs.List.{list_any};
 ghost use Rattle.std.specs.Prelude.{[]};
 ghost use Rattle.apx_dag.specs.Names.{named_again, is_bad_name};
 
-use apx_json::{Name, OperatorText, StreamText};
+use crate::known::KnownOperator;
+use apx_json::{Name, StreamText};
 use indexmap::IndexSet;
 use std::alloc::{AllocError, Global};
 
@@ -17,11 +18,11 @@ pub(crate) trait Named {
         ensures { result.now ≡ named self.now };
 }
 
-impl Named for OperatorText {
+impl Named for KnownOperator {
     ghost named = { λ operator. operator.name };
 
     fn name(&self) -> &Name {
-        &self.name
+        &self.written().name
     }
 }
 

@@ -4,9 +4,9 @@ ghost use Rattle.std.specs.Prelude.{◌≡◌, [], find, map, not, option_map, o
 ghost use Rattle.std.specs.List.{list_any, list_all};
 ghost use Rattle.apx_dag.specs.Ports.{is_port, same_port, has_output, left_port, right_port, is_named, is_source, is_text, is_sink, joins_ports, is_fed_by, sink_again, uses_again, used_again, is_fed, is_joined, source_of, link_of, links_of};
 
-use crate::class::Class;
+use crate::known::{KnownApp, KnownOperator};
 use crate::link::Link;
-use apx_json::{AppText, Name, OperatorText, PortText, StreamText};
+use apx_json::{Name, PortText, StreamText};
 use std::alloc::{AllocError, Global};
 
 fn is_port(operator: &Name, port: &str, found: &PortText) -> bool
@@ -21,43 +21,43 @@ fn same_port(port: &PortText, other: &PortText) -> bool
     is_port(&port.operator, port.port.text(), other)
 }
 
-fn has_output(operator: &OperatorText) -> bool
+fn has_output(operator: &KnownOperator) -> bool
     ensures { result ≡ has_output operator.now }
 {
-    match Class::of(operator.class.text()) {
+    match operator.class() {
         Some(class) => class.has_output(),
         None => false,
     }
 }
 
-fn left_port(operator: &OperatorText) -> Option<&'static str>
+fn left_port(operator: &KnownOperator) -> Option<&'static str>
     ensures { option_map (λ port. port.now) result ≡ left_port operator.now }
 {
-    match Class::of(operator.class.text()) {
+    match operator.class() {
         Some(class) => class.left_port(),
         None => None,
     }
 }
 
-fn right_port(operator: &OperatorText) -> Option<&'static str>
+fn right_port(operator: &KnownOperator) -> Option<&'static str>
     ensures { option_map (λ port. port.now) result ≡ right_port operator.now }
 {
-    match Class::of(operator.class.text()) {
+    match operator.class() {
         Some(class) => class.right_port(),
         None => None,
     }
 }
 
-fn named<'a>(operators: &'a [OperatorText], name: &Name) -> Option<&'a OperatorText>
+fn named<'a>(operators: &'a [KnownOperator], name: &Name) -> Option<&'a KnownOperator>
     ensures { option_map (λ o. o.now) result ≡ find (is_named name.now) operators.now }
 {
     operators
         .iter()
-        .find(|operator| operator.name.text() == name.text())
+        .find(|operator| operator.written().name.text() == name.text())
 }
 
 /// Whether it is an output port of an operator that is there.
-fn is_source(operators: &[OperatorText], port: &PortText) -> bool
+fn is_source(operators: &[KnownOperator], port: &PortText) -> bool
     ensures { result ≡ is_source operators.now port.now }
 {
     match named(operators, &port.operator) {
@@ -76,7 +76,7 @@ fn is_text(text: &Name, found: Option<&str>) -> bool
 }
 
 /// Whether it is an input port of an operator that is there.
-fn is_sink(operators: &[OperatorText], port: &PortText) -> bool
+fn is_sink(operators: &[KnownOperator], port: &PortText) -> bool
     ensures { result ≡ is_sink operators.now port.now }
 {
     match named(operators, &port.operator) {
@@ -87,20 +87,20 @@ fn is_sink(operators: &[OperatorText], port: &PortText) -> bool
     }
 }
 
-fn are_sinks(operators: &[OperatorText], ports: &[PortText]) -> bool
+fn are_sinks(operators: &[KnownOperator], ports: &[PortText]) -> bool
     ensures { result ≡ list_all (is_sink operators.now) ports.now }
 {
     ports.iter().all(|port| is_sink(operators, port))
 }
 
-fn joins_ports(operators: &[OperatorText], stream: &StreamText) -> bool
+fn joins_ports(operators: &[KnownOperator], stream: &StreamText) -> bool
     ensures { result ≡ joins_ports operators.now stream.now }
 {
     is_source(operators, &stream.source) && are_sinks(operators, &stream.sinks)
 }
 
 /// The first stream with an end that is no port of an operator.
-pub(crate) fn no_port<'a>(app: &'a AppText) -> Option<&'a StreamText>
+pub(crate) fn no_port<'a>(app: &'a KnownApp) -> Option<&'a StreamText>
     ensures { option_map (λ s. s.now) result
         ≡ find (λ s. not (joins_ports app.now.operators s)) app.now.streams }
 {
@@ -197,16 +197,16 @@ fn is_read(streams: &[StreamText], operator: &Name) -> bool
 }
 
 /// Whether each of its ports is in a stream.
-fn is_joined(streams: &[StreamText], operator: &OperatorText) -> bool
+fn is_joined(streams: &[StreamText], operator: &KnownOperator) -> bool
     ensures { result ≡ is_joined streams.now operator.now }
 {
-    (!has_output(operator) || is_read(streams, &operator.name))
-        && is_fed(streams, &operator.name, left_port(operator))
-        && is_fed(streams, &operator.name, right_port(operator))
+    (!has_output(operator) || is_read(streams, &operator.written().name))
+        && is_fed(streams, &operator.written().name, left_port(operator))
+        && is_fed(streams, &operator.written().name, right_port(operator))
 }
 
 /// The first operator with a port that is in no stream.
-pub(crate) fn unused_port(app: &AppText) -> Option<&OperatorText>
+pub(crate) fn unused_port(app: &KnownApp) -> Option<&KnownOperator>
     ensures { option_map (λ o. o.now) result
         ≡ find (λ o. not (is_joined app.now.streams o)) app.now.operators }
 {
@@ -215,12 +215,12 @@ pub(crate) fn unused_port(app: &AppText) -> Option<&OperatorText>
         .find(|operator| !is_joined(&app.streams, operator))
 }
 
-fn number(operators: &[OperatorText], name: &Name) -> Option<usize>
+fn number(operators: &[KnownOperator], name: &Name) -> Option<usize>
     ensures { result ≡ position (is_named name.now) operators.now }
 {
     operators
         .iter()
-        .position(|operator| operator.name.text() == name.text())
+        .position(|operator| operator.written().name.text() == name.text())
 }
 
 fn stream_to<'a>(streams: &'a [StreamText], operator: &Name, port: &str) -> Option<&'a StreamText>
@@ -231,7 +231,7 @@ fn stream_to<'a>(streams: &'a [StreamText], operator: &Name, port: &str) -> Opti
 }
 
 /// The number of the operator that feeds a port.
-fn source(app: &AppText, operator: &Name, port: &str) -> Option<usize>
+fn source(app: &KnownApp, operator: &Name, port: &str) -> Option<usize>
     ensures { result ≡ source_of app.now operator.now port.now }
 {
     match stream_to(&app.streams, operator, port) {
@@ -240,7 +240,7 @@ fn source(app: &AppText, operator: &Name, port: &str) -> Option<usize>
     }
 }
 
-fn source_at(app: &AppText, operator: &Name, port: Option<&str>) -> Option<usize>
+fn source_at(app: &KnownApp, operator: &Name, port: Option<&str>) -> Option<usize>
     ensures { result ≡ option_and_then (source_of app.now operator.now) (option_map (λ port. port.now) port.entry) }
 {
     match port {
@@ -249,17 +249,17 @@ fn source_at(app: &AppText, operator: &Name, port: Option<&str>) -> Option<usize
     }
 }
 
-fn link(app: &AppText, operator: &OperatorText) -> Link
+fn link(app: &KnownApp, operator: &KnownOperator) -> Link
     ensures { result ≡ link_of app.now operator.now }
 {
     Link {
-        left: source_at(app, &operator.name, left_port(operator)),
-        right: source_at(app, &operator.name, right_port(operator)),
+        left: source_at(app, &operator.written().name, left_port(operator)),
+        right: source_at(app, &operator.written().name, right_port(operator)),
     }
 }
 
 /// The sources of each operator.
-pub(crate) fn links(alloc: Global, app: &AppText) -> Result<Vec<Link>, AllocError>
+pub(crate) fn links(alloc: Global, app: &KnownApp) -> Result<Vec<Link>, AllocError>
     ensures { IfOk result (λ links. links.items ≡ links_of app.now) }
 {
     app.operators

@@ -3,10 +3,10 @@
 ghost use Rattle.std.specs.Prelude.{◌≡◌, ◌≤◌, option_map, option_and_then, IfOk, IfSome};
 ghost use Rattle.std.specs.List.{list_all};
 ghost use Rattle.apx_json.specs.Integers.{integer_in};
-ghost use Rattle.apx_dag.specs.Role.{within, natural_in, is_file, takes, value_named, integer_named, natural_named, role_view, input_of, kind_of, built, role_of, role_in};
+ghost use Rattle.apx_dag.specs.Role.{within, natural_in, is_file, takes, value_named, integer_named, natural_named, role_view, input_of, kind_of, built, role_of};
 
 use crate::class::Class;
-use apx_json::{Name, OperatorText, Property, PropertyValue, is_file_name};
+use apx_json::{Name, Property, PropertyValue, is_file_name};
 use apx_tuple::{InputKind, Kind};
 use std::alloc::{AllocError, Global};
 
@@ -23,6 +23,27 @@ pub enum Role {
     Inner(Kind),
     /// Stores the tuples of its source.
     Sink,
+}
+
+impl Role {
+    /// The same role.
+    pub(crate) fn copy(&self) -> Result<Role, AllocError>
+        ensures { IfOk result (λ role. role_view role ≡ role_view self.now) }
+    {
+        match self {
+            Role::Input {
+                kind,
+                file,
+                per_window,
+            } => Ok(Role::Input {
+                kind: *kind,
+                file: file.copy()?,
+                per_window: *per_window,
+            }),
+            Role::Inner(kind) => Ok(Role::Inner(*kind)),
+            Role::Sink => Ok(Role::Sink),
+        }
+    }
 }
 
 /// An integer as a whole number from `low` to `high`.
@@ -178,25 +199,16 @@ fn built(alloc: Global, class: Class, properties: &[Property]) -> Result<Option<
 /// The role of an operator of this class with these properties; `None` where a
 /// property isn't one of the class, a needed one is absent, or a value is
 /// outside its range.
-fn role_of(alloc: Global, class: Class, properties: &[Property]) -> Result<Option<Role>, AllocError>
+pub(crate) fn role_of(
+    alloc: Global,
+    class: Class,
+    properties: &[Property],
+) -> Result<Option<Role>, AllocError>
     ensures { IfOk result (λ role. option_map role_view role ≡ role_of class properties.now) }
 {
     if takes_all(class, properties) {
         built(alloc, class, properties)
     } else {
         Ok(None)
-    }
-}
-
-/// The role of an operator; `None` also where its class is unknown.
-pub(crate) fn operator_role(
-    alloc: Global,
-    operator: &OperatorText,
-) -> Result<Option<Role>, AllocError>
-    ensures { IfOk result (λ role. option_map role_view role ≡ role_in operator.now) }
-{
-    match Class::of(operator.class.text()) {
-        Some(class) => role_of(alloc, class, &operator.properties),
-        None => Ok(None),
     }
 }

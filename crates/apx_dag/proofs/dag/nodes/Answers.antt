@@ -38,6 +38,6 @@ pub loop-i-preserved : goal.loop-i-preserved
 loop-i-preserved c =
     let s = (goal.at.loop-i-preserved c).In-loop-i in
     let o = c.operator-item.result in
-    let text = c.in_ok-name.ensures.items ∙ c.as_bytes.ensures.value ∙ c.text.ensures ∙ ap (λ (x : Operator). x.name) c.operator.view_is in
+    let text = c.in_ok-name.ensures.items ∙ c.as_bytes.ensures.value ∙ c.text.ensures ∙ ap (λ (x : Operator). x.name) (c.behind-operator.view_is ∙ c.written.ensures) in
     let node_is = c.in_ok-node.ensures ∙ ap (λ (l : Link). node_by c.loop-i.i o l) (link_is s o c.operator-item.is (record { left = None; right = None })) in
     build c.args.app.now c.loop-i.i c.loop-i.nodes.entries c.insert.new.self.entries o c.in_ok-name.name c.in_ok-node.node c.loop-i.invariant (here s) (read s o c.operator-item.is) text node_is c.in_ok-insert.ensures.entries

@@ -6,7 +6,7 @@ use Rattle.apx_dag.specs.Ports.{link_of}
 use Rattle.apx_dag.proofs.Answering.{is_cycle, is_dag}
 use Rattle.apx_dag.proofs.Inversions.{holds_before}
 use Rattle.apx_dag.proofs.Sources.{links_within, few_operators, names_apart}
-use Rattle.apx_dag.proofs.dag.Dag.of.Goals as goal
+use Rattle.apx_dag.proofs.dag.Dag.of_known.Goals as goal
 
 pub first_loop-requires : goal.first_loop-requires
 first_loop-requires c = rw (c.deref.ensures.value, c.in_ok-links.ensures) (links_within c.args.app)
@@ -31,7 +31,7 @@ returns-in-Some c =
     let o = c.index.result.now in
     let operators = ap (λ (a : Application). a.operators) c.app.view_is in
     let first : IsFirstLoop c.deref.result.now c.in-Some.i = rw c.in-Some.is at c.in_ok-i.ensures in
-    is_cycle c.args.app c.deref.result.now c.in-Some.i o c.in_ok-copy.field-0 c.in_ok-before_cycles.ensures (c.deref.ensures.value ∙ c.in_ok-links.ensures) first (c.index.ensures ∙ ap (λ (os : List Operator). get_or os c.in-Some.i o) operators) (c.in_ok-copy.ensures ∙ ap (λ (x : Operator). x.name) c.behind-app.view_is)
+    is_cycle c.args.app c.deref.result.now c.in-Some.i o c.in_ok-copy.field-0 c.in_ok-before_cycles.ensures (c.deref.ensures.value ∙ c.in_ok-links.ensures) first (c.index.ensures ∙ ap (λ (os : List Operator). get_or os c.in-Some.i o) operators) (c.in_ok-copy.ensures ∙ ap (λ (x : Operator). x.name) (c.behind-index.view_is ∙ c.written.ensures))
 
 pub invariant_of-result : goal.invariant_of-result
 invariant_of-result c =
