@@ -20,7 +20,11 @@ node_names entries = map (λ e. e.1.name) entries
 
 -- the operators under their names, and their order
 pub record IsDag (entries : List (Vec ℕ × Node)) (order : List ℕ) : Type 0 where
+  -- there are at most 16 operators
   pub few : length entries ≤ 16
+  -- each stands under its own name
   pub named : key_texts entries ≡ node_names entries
+  -- the order is the earliest in which they can step
   pub ordered : IsLinkOrder (sources_in (nodes_in entries)) order
+  -- the graph is valid
   pub valid : IsGraph (nodes_in entries)

@@ -58,18 +58,26 @@ sources_in nodes = map sources_of nodes
 
 -- no rule is broken
 pub record IsAccepted (app : Application) : Type 0 where
+  -- no rule before the one on cycles is broken
   pub before : before_cycles app ≡ Ok tt
+  -- no operator is reached from itself
   pub acyclic : IsAcyclic (links_of app)
+  -- no rule after it is broken
   pub after : after_cycles app ≡ Ok tt
+
+-- stands where there is no operator
+abbrev pub no_operator : Operator
+no_operator = record { name = []; class = []; properties = []; partitions = pos 1; app_windows = pos 1 }
 
 -- the name of an operator
 abbrev pub name_at : List Operator → ℕ → List ℕ
-name_at operators i = (slice_index_or operators i (record { name = []; class = []; properties = []; partitions = pos 1; app_windows = pos 1 })).name
+name_at operators i = (slice_index_or operators i no_operator).name
 
 -- a rule that is broken, before which no other is, and the place that breaks it first
 pub data IsRefused (app : Application) (code : ℕ) (place : List ℕ) : Type 0 where
   before : before_cycles app ≡ Err (code, place) → IsRefused app code place
-  cycle : {i : ℕ} → before_cycles app ≡ Ok tt → IsFirstLoop (links_of app) i → code ≡ 8 → place ≡ name_at app.operators i → IsRefused app code place
+  cycle : {i : ℕ} → before_cycles app ≡ Ok tt → IsFirstLoop (links_of app) i →
+      code ≡ 8 → place ≡ name_at app.operators i → IsRefused app code place
   after : before_cycles app ≡ Ok tt → IsAcyclic (links_of app) → after_cycles app ≡ Err (code, place) → IsRefused app code place
 
 -- the graph of an accepted application, or the first broken rule; want of memory says nothing

@@ -29,18 +29,26 @@ IsAcyclic links = (i : ℕ) → i < length links → ¬ Reaches links i i
 
 -- an operator that isn't placed, with each of its sources placed
 pub record IsReady (links : List Link) (placed : List ℕ) (i : ℕ) : Type 0 where
+  -- the operator is there
   pub here : i < length links
+  -- it isn't placed
   pub unplaced : ¬ Contains placed i
+  -- its sources are placed
   pub fed : (a : ℕ) → Feeds links a i → Contains placed a
 
 -- the earliest operator that is ready
 pub record IsNext (links : List Link) (placed : List ℕ) (i : ℕ) : Type 0 where
+  -- the operator is ready
   pub ready : IsReady links placed i
+  -- none before it is ready
   pub earliest : (j : ℕ) → j < i → ¬ IsReady links placed j
 
 -- At each step comes the earliest operator whose sources are placed, and each operator comes. So each
 -- comes once, after its sources.
 pub record IsLinkOrder (links : List Link) (order : List ℕ) : Type 0 where
+  -- at each place stands the earliest that is ready after those before it
   pub next : (k : ℕ) → k < length order → IsNext links (take k order) (slice_index order k)
+  -- each operator stands in the order
   pub each : (i : ℕ) → i < length links → Contains order i
+  -- it has as many places as there are operators
   pub size : length order ≡ length links

@@ -43,7 +43,8 @@ is_text text found = option_map_or (bytes_eq text) found false
 
 -- the port is an input port of an operator that is there
 abbrev pub is_sink : List Operator → PortText → Bool
-is_sink operators p = option_map_or (λ o. is_text p.port (left_port o) || is_text p.port (right_port o)) (find (is_named p.operator) operators) false
+is_sink operators p =
+    option_map_or (λ o. is_text p.port (left_port o) || is_text p.port (right_port o)) (find (is_named p.operator) operators) false
 
 -- a stream's source is an output port and each sink an input port
 abbrev pub joins_ports : List Operator → Stream → Bool
@@ -58,7 +59,8 @@ is_fed_by p s = list_any (same_port p) s.sinks
 -- a sink stands in an earlier stream, or earlier among these, where those of `before` come first
 abbrev pub sink_again : List Stream → List PortText → List PortText → Bool
 sink_again earlier before [] = false
-sink_again earlier before (p ∷ ps) = (list_any (is_fed_by p) earlier || list_any (same_port p) before) || sink_again earlier (before ++ p ∷ []) ps
+sink_again earlier before (p ∷ ps) =
+    (list_any (is_fed_by p) earlier || list_any (same_port p) before) || sink_again earlier (before ++ p ∷ []) ps
 
 -- a stream uses a port that an earlier stream, or an earlier sink of its own, has used
 abbrev pub uses_again : List Stream → Stream → Bool
@@ -78,17 +80,24 @@ is_fed streams name (Some port) = list_any (λ s. list_any (is_port name port) s
 
 -- each of an operator's ports is in a stream
 abbrev pub is_joined : List Stream → Operator → Bool
-is_joined streams o = ((not (has_output o) || list_any (λ s. is_port o.name (codes "output") s.source) streams) && is_fed streams o.name (left_port o)) && is_fed streams o.name (right_port o)
+is_joined streams o =
+    ((not (has_output o) || list_any (λ s. is_port o.name (codes "output") s.source) streams)
+    && is_fed streams o.name (left_port o)) && is_fed streams o.name (right_port o)
 
 -- ---- sources
 
 -- the number of the operator that feeds a port
 abbrev pub source_of : Application → List ℕ → List ℕ → Option ℕ
-source_of app name port = option_and_then (λ s. position (is_named s.source.operator) app.operators) (find (λ s. list_any (is_port name port) s.sinks) app.streams)
+source_of app name port =
+    option_and_then (λ s. position (is_named s.source.operator) app.operators)
+    (find (λ s. list_any (is_port name port) s.sinks) app.streams)
 
 -- the numbers of the operators that an operator reads
 abbrev pub link_of : Application → Operator → Link
-link_of app o = record { left = option_and_then (source_of app o.name) (left_port o); right = option_and_then (source_of app o.name) (right_port o) }
+link_of app o = record {
+  left = option_and_then (source_of app o.name) (left_port o);
+  right = option_and_then (source_of app o.name) (right_port o);
+}
 
 -- the same of all operators
 abbrev pub links_of : Application → List Link

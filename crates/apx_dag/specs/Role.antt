@@ -79,11 +79,14 @@ text_of Other = None
 -- the role of an input, where its file and lines per window are there
 abbrev pub input_of : InputKind → List Property → Option Role
 input_of kind properties =
-    option_and_then (λ file. option_map (λ per_window. Input kind file per_window) (natural_named 1 1000000 (codes "perWindow") properties)) (option_and_then text_of (value_named (codes "file") properties))
+    option_and_then (λ file. option_map (λ per_window. Input kind file per_window) (natural_named 1 1000000 (codes "perWindow") properties))
+    (option_and_then text_of (value_named (codes "file") properties))
 
 -- the kind of an inner operator, where the properties that it needs are there
 abbrev pub kind_of : Class → List Property → Option Kind
-kind_of Keep properties = Some (kinds.Keep (unwrap_or (integer_named (codes "min") properties) (negsuc (2 ^ 63 - 1))) (unwrap_or (integer_named (codes "max") properties) (pos (2 ^ 63 - 1))))
+kind_of Keep properties =
+    Some (kinds.Keep (unwrap_or (integer_named (codes "min") properties) (negsuc (2 ^ 63 - 1)))
+    (unwrap_or (integer_named (codes "max") properties) (pos (2 ^ 63 - 1))))
 kind_of Scale properties = option_map kinds.Scale (integer_named (codes "factor") properties)
 kind_of Words properties = Some kinds.Words
 kind_of Count properties = Some kinds.Count

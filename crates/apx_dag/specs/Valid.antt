@@ -34,20 +34,32 @@ IsEndpoint Sink = Unit {0}
 -- an operator's numbers are in their ranges, and an input or the sink has one partition and gathers
 -- one window
 pub record IsNode (node : Node) : Type 0 where
+  -- the numbers of its role are in their ranges
   pub role : IsRole node.role
+  -- it has 1 to 8 partitions
   pub partitions : (1 ≤ node.partitions) × (node.partitions ≤ 8)
+  -- it gathers 1 to 20,000 windows
   pub app_windows : (1 ≤ node.app_windows) × (node.app_windows ≤ 20000)
+  -- an input or the sink has one partition and gathers one window
   pub alone : IsEndpoint node.role → (node.partitions ≡ 1) × (node.app_windows ≡ 1)
 
 -- an input, or one that is reached from an input
 abbrev pub IsFed : List Node → ℕ → Type 0
-IsFed nodes i = IsInputRole (node_at nodes i).role ⊎ ((a : ℕ) × (a < length nodes) × IsInputRole (node_at nodes a).role × Reaches (sources_in nodes) a i)
+IsFed nodes i =
+    IsInputRole (node_at nodes i).role
+    ⊎ ((a : ℕ) × (a < length nodes) × IsInputRole (node_at nodes a).role × Reaches (sources_in nodes) a i)
 
 -- Each source is an operator that isn't the sink, there is one sink, and each operator that isn't an
 -- input is reached from one.
 pub record IsGraph (nodes : List Node) : Type 0 where
+  -- each operator's numbers are in their ranges
   pub each : (i : ℕ) → i < length nodes → IsNode (node_at nodes i)
+  -- each source is there
   pub sources : IsWithin (sources_in nodes)
+  -- no operator reads the sink
   pub outputs : (a b : ℕ) → Feeds (sources_in nodes) a b → (node_at nodes a).role ≢ Sink
-  pub sink : (s : ℕ) × (s < length nodes) × ((node_at nodes s).role ≡ Sink) × ((j : ℕ) → j < length nodes → (node_at nodes j).role ≡ Sink → j ≡ s)
+  -- there is one sink
+  pub sink : (s : ℕ) × (s < length nodes) × ((node_at nodes s).role ≡ Sink)
+      × ((j : ℕ) → j < length nodes → (node_at nodes j).role ≡ Sink → j ≡ s)
+  -- each operator is an input, or reached from one
   pub fed : (i : ℕ) → i < length nodes → IsFed nodes i

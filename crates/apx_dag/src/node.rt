@@ -26,5 +26,12 @@ impl Model for Node {
 
     ghost Value = { graph.Node };
 
-    ghost view = { λ n. record { name = n.name; role = role_view n.role; partitions = n.partitions; left = n.left; right = n.right; app_windows = n.app_windows } };
+    ghost view = { λ n. record {
+      name = n.name;
+      role = role_view n.role;
+      partitions = n.partitions;
+      left = n.left;
+      right = n.right;
+      app_windows = n.app_windows;
+    } };
 }
