@@ -8,6 +8,8 @@ ghost use Rattle.std.specs.Prelude.{◌≡◌, ◌==◌, ◌∷◌, [], ◌<◌,
 ghost use Rattle.apx_pass.specs.Lines.{lines, without_cr};
 ghost use Rattle.apx_lines.specs.Rest.{IsRest};
 
+use memchr::memchr;
+
 #[cfg(test)]
 mod tests;
 
@@ -35,7 +37,7 @@ pub fn next_line(text: &[u8]) -> Option<(&[u8], &[u8])>
 fn first_lf(text: &[u8]) -> Option<usize>
     ensures { result ≡ position (λ byte. byte == 10) text.now }
 {
-    text.iter().position(|byte| *byte == LF)
+    memchr(LF, text)
 }
 
 /// The piece without one CR at its end.
