@@ -42,13 +42,34 @@ pub fn windows(
     // And a refusal reports the first refused line and its cause.
     ensures refused { IfErr result (λ refusal. Reports refusal (first_refused (input_of kind per_window bytes.now))) }
 {
-    let starts = window_starts(alloc, kind, per_window, bytes)?;
-    Ok(Windows {
-        kind,
-        per_window,
-        bytes: Vec::from_slice(alloc, bytes)?,
-        starts,
-    })
+    Windows::of(kind, per_window, Vec::from_slice(alloc, bytes)?)
+}
+
+impl Windows {
+    /// The windows of a file with these bytes, which aren't copied: `per_window` lines each, and fewer in the last.
+    ///
+    /// The first line is refused as [`windows`] says; the bytes are dropped then.
+    pub fn of(kind: InputKind, per_window: u32, bytes: Vec<u8>) -> Result<Windows, LineRefusal>
+        requires low { 1 ≤ per_window }
+        requires high { per_window ≤ 1000000 }
+        // The windows are those of the file.
+        ensures ok { IfOk result (λ windows. windows ≡ input_of kind per_window bytes.items) }
+        // No line of it is refused.
+        ensures accepted { OnOk result (first_refused (input_of kind per_window bytes.items) ≡ None) }
+        // Where a line is refused, the answer is the refusal of the first one, unless memory runs out.
+        ensures exact { (refused : Refused) → first_refused (input_of kind per_window bytes.items) ≡ Some refused →
+            (result ≡ Err (refusal_of refused)) ⊎ (result ≡ Err LineRefusal.Memory) }
+        // And a refusal reports the first refused line and its cause.
+        ensures refused { IfErr result (λ refusal. Reports refusal (first_refused (input_of kind per_window bytes.items))) }
+    {
+        let starts = window_starts(*bytes.allocator(), kind, per_window, &bytes)?;
+        Ok(Windows {
+            kind,
+            per_window,
+            bytes,
+            starts,
+        })
+    }
 }
 
 /// Where in a file with these bytes each window begins.

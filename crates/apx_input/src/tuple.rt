@@ -3,7 +3,7 @@ ghost use Rattle.std.specs.Prelude.{◌≡◌, ◌≤◌, length, is_some, IfOk}
 ghost use Rattle.apx_pass.specs.Pairs.{tuple_of};
 
 use crate::pair::pair_of;
-use apx_tuple::{InputKind, Key, KeyRefusal, Tuple};
+use apx_tuple::{InputKind, Key, Tuple};
 use std::alloc::{AllocError, Global};
 
 /// Whether the line has a tuple.
@@ -29,27 +29,15 @@ pub(crate) fn tuple_of(
 {
     match kind {
         InputKind::Lines => {
-            let key = key_of(alloc, line)?;
+            let key = Key::of_few(alloc, line)?;
             Ok(Some(Tuple { key, value: 1 }))
         }
         InputKind::Pairs => match pair_of(line) {
             Some((key, value)) => {
-                let key = key_of(alloc, key)?;
+                let key = Key::of_few(alloc, key)?;
                 Ok(Some(Tuple { key, value }))
             }
             None => Ok(None),
         },
-    }
-}
-
-/// The key with these bytes of a line.
-fn key_of(alloc: Global, bytes: &[u8]) -> Result<Key, AllocError>
-    requires { length bytes.now ≤ 1024 }
-    ensures { IfOk result (λ key. key ≡ bytes.now) }
-{
-    match Key::of(alloc, bytes) {
-        Ok(key) => Ok(key),
-        Err(KeyRefusal::Memory) => Err(AllocError),
-        Err(KeyRefusal::TooLong { .. }) => unreachable!(),
     }
 }

@@ -18,7 +18,7 @@ use std::marker::Model;
 /// asked for.
 ///
 /// ```
-/// let windows = windows(alloc, InputKind::Pairs, 1000, bytes)?;
+/// let windows = Windows::of(InputKind::Pairs, 1000, bytes)?;
 /// for window in 0..windows.count() {
 ///     let bag = windows.bag(window + 1)?;
 /// }
