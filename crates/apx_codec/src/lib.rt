@@ -93,4 +93,22 @@ mod tests {
             assert_eq!(rt; owner_by_number(n, hash(key.as_bytes())), want, "at {key}");
         }
     }
+
+    #[test]
+    fn bytes_above_127_count_as_they_are(rt: HostRuntime) {
+        assert_eq!(rt; hash("é".as_bytes()), 6214);
+        for (n, first, second) in [
+            (1, 0, 0),
+            (2, 1, 0),
+            (3, 0, 2),
+            (4, 3, 2),
+            (5, 2, 1),
+            (6, 1, 0),
+            (7, 0, 6),
+            (8, 7, 6),
+        ] {
+            assert_eq!(rt; owner(n, &[255]), first, "at {n}");
+            assert_eq!(rt; owner(n, "é".as_bytes()), second, "at {n}");
+        }
+    }
 }
