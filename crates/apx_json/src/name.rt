@@ -7,8 +7,14 @@ use std::fmt;
 use std::marker::Model;
 
 /// A text of its own, as the name of an operator, a stream or a file.
+///
+/// ```
+/// let name = Name::of(alloc, "Count")?;
+/// assert_eq!(rt; name.text(), "Count");
+/// ```
 #[derive(Debug, Drop)]
 pub struct Name {
+    /// The text.
     text: String,
 }
 

@@ -173,3 +173,16 @@ fn an_application_has_what_its_text_has(rt: HostRuntime) -> Result<(), Fail> {
     assert_eq!(rt; stream.sinks.len(), 2);
     Ok(())
 }
+
+#[test]
+fn a_file_name_has_1_to_4096_bytes(rt: HostRuntime) -> Result<(), Fail> {
+    let mut name = String::new(rt.alloc());
+    for _ in 0..4096 {
+        name.push('a')?;
+    }
+    assert!(rt; is_file_name(name.as_str()));
+    name.push('a')?;
+    assert!(rt; !is_file_name(name.as_str()));
+    assert!(rt; is_file_name("a") && !is_file_name("") && !is_file_name("-a"));
+    Ok(())
+}

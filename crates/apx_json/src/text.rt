@@ -35,21 +35,27 @@ impl PropertyValue {
 /// A property of an operator, by its name.
 #[derive(Debug, Drop)]
 pub struct Property {
+    /// Its name.
     pub name: Name,
+    /// Its value.
     pub value: PropertyValue,
 }
 
 /// One end of a stream: a port of an operator, both by name.
 #[derive(Debug, Drop)]
 pub struct PortText {
+    /// The name of the operator.
     pub operator: Name,
+    /// The name of its port.
     pub port: Name,
 }
 
 /// An operator.
 #[derive(Debug, Drop)]
 pub struct OperatorText {
+    /// Its name.
     pub name: Name,
+    /// The class that it is of.
     pub class: Name,
     /// Each name once, in ascending order of their bytes.
     pub properties: Vec<Property>,
@@ -65,14 +71,23 @@ impl Model for OperatorText {
 
     ghost Value = { Operator };
 
-    ghost view = { λ o. record { name = o.name; class = o.class; properties = o.properties.items; partitions = o.partitions; app_windows = o.app_windows } };
+    ghost view = { λ o. record {
+      name = o.name;
+      class = o.class;
+      properties = o.properties.items;
+      partitions = o.partitions;
+      app_windows = o.app_windows;
+    } };
 }
 
 /// A stream from one output port to any number of input ports.
 #[derive(Debug, Drop)]
 pub struct StreamText {
+    /// Its name.
     pub name: Name,
+    /// The output port that it comes from.
     pub source: PortText,
+    /// The input ports that it goes to.
     pub sinks: Vec<PortText>,
 }
 
@@ -87,7 +102,9 @@ impl Model for StreamText {
 /// An application: its operators and streams, in the order of the file.
 #[derive(Debug, Drop)]
 pub struct AppText {
+    /// The operators.
     pub operators: Vec<OperatorText>,
+    /// The streams.
     pub streams: Vec<StreamText>,
 }
 
