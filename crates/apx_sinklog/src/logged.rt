@@ -12,8 +12,11 @@ use std::alloc::{AllocError, Global};
 /// The rows of a window, as the body of its record.
 #[derive(Drop)]
 pub(crate) struct LoggedWindow {
+    /// The bytes.
     pub(crate) body: Vec<u8>,
+    /// The window and the count are there.
     ghost long: { 8 ≤ length body.items },
+    /// So many rows follow, and nothing else.
     ghost whole: { is_some (body_rows body.items) ≡ true },
 }
 

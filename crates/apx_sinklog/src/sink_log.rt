@@ -25,11 +25,15 @@ use std::alloc::{AllocError, Global};
 /// ```
 #[derive(Drop)]
 pub struct SinkLog<D: Disk + Drop> {
+    /// The records, one for each window.
     records: Records<D>,
+    /// Where the windows lie.
     alloc: Global,
     /// The windows in order, each as it stands in the log.
     windows: Vec<LoggedWindow>,
+    /// Each has a number of 32 bits.
     ghost countable: { vec_len windows < 2 ^ 32 },
+    /// As long as it is sound, the file spells the windows.
     ghost spelled: { IsTrue records.sound → IsTrue D.tells → sink_of (D.seen records.disk) ≡ Ok (logged_windows windows.items) },
 }
 
