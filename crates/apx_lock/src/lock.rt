@@ -38,10 +38,13 @@ const SPINS: u32 = 100;
 /// ```
 #[derive(Drop)]
 pub struct MarkLock<V: Kept> {
+    /// The words of the lock, and the place of the value.
     pub(crate) table: Table<Option<V>, View<V::Name, V::Entry>, Terms<V::Name>, Law, Global>,
+    /// How many marks there are.
     pub(crate) marks: u8,
-    // How many threads sleep until the turn is given back, or are about to. Each wakes one where it leaves.
+    /// How many threads sleep until the turn is given back, or are about to. Each wakes one where it leaves.
     pub(crate) waiting: AtomicU64,
+    /// The table has a word for each mark and two more, and one place.
     ghost counts: { (table.shared.table_id.words ≡ marks + 2) × (table.shared.table_id.slots ≡ 1)
         × (table.shared.key.marks ≡ marks) × (marks ≤ 64) },
 }

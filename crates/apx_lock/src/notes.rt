@@ -10,6 +10,10 @@ use crate::turn::Turn;
 use std::alloc::{AllocError, Global};
 
 /// A number that a thread wrote. It lets nothing go.
+///
+/// ```
+/// let note = Note { by: 0, number: 5 };
+/// ```
 #[derive(Clone, Copy)]
 pub struct Note {
     /// The number of the seat.
@@ -19,8 +23,14 @@ pub struct Note {
 }
 
 /// All notes, in the order in which they were written. The list is its own log, and has no name.
+///
+/// ```
+/// let mut notes = Notes::new(alloc);
+/// notes.add(Note { by: 0, number: 5 })?;
+/// ```
 #[derive(Drop)]
 pub struct Notes {
+    /// The notes.
     list: Vec<Note>,
 }
 

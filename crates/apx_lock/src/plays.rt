@@ -52,6 +52,7 @@ impl<V: Kept> Play<Option<V>, View<V::Name, V::Entry>> for Load {
 
 // Which mark a split hands over. Each call picks it.
 pub(crate) trait Hand {
+    // The mark, if it is one.
     ghost mark: { Option ℕ };
 }
 
@@ -63,6 +64,7 @@ impl Hand for Brand {
 
 // A seat is split.
 pub(crate) struct Cut<H> {
+    // What it hands over.
     hand: PhantomData<H>,
 }
 

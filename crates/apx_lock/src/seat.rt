@@ -11,9 +11,11 @@ pub type Seat<V> = SeatOver<V, <V as Kept>::Name, <V as Kept>::Entry>;
 /// A seat, over the types of a value, of its name and of its entries.
 #[derive(Drop)]
 pub struct SeatOver<V, N, E> {
+    /// The seat at the lock's table.
     pub(crate) place: atomic_table::Seat<Option<V>, View<N, E>>,
+    /// The number of the seat.
     pub(crate) number: u8,
-    // How many numbers were given out, where this seat gives them out, and otherwise 0.
+    /// How many numbers were given out, where this seat gives them out, and otherwise 0.
     pub(crate) given: u16,
 }
 

@@ -13,9 +13,11 @@ pub type Turn<'a, V> = TurnOver<&'a MarkLock<V>, V>;
 
 /// A turn, over the type that lends the lock and that of the value.
 pub struct TurnOver<L, V> {
+    /// The lock that was entered.
     pub(crate) lock: L,
+    /// Its value.
     pub(crate) value: V,
-    // The number of entries as the turn was taken.
+    /// The number of entries as the turn was taken.
     pub(crate) base: u64,
 }
 
