@@ -13,6 +13,7 @@ pub enum DiskRefusal {
     /// The disk failed, and has counted that.
     #[error("the disk failed")]
     Failed,
+    /// There was no memory for it.
     #[error("out of memory")]
     Memory,
 }

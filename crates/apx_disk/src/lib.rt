@@ -8,3 +8,6 @@ mod records;
 pub use disk::{Disk, DiskRefusal};
 pub use memory_disk::MemoryDisk;
 pub use records::{LogRefusal, Record, Records, RecordsRefusal};
+
+#[cfg(test)]
+mod tests;

@@ -37,13 +37,23 @@ pub(crate) struct DiskCalls {
 ///
 /// A call that is to fail counts a fault and changes nothing. So does each call once the disk has stopped. A cut
 /// and a sync for which there is no memory fail too.
+///
+/// ```
+/// // It stops for good after four calls.
+/// let mut disk = MemoryDisk::stopping(alloc, Vec::new(alloc), 4);
+/// disk.write_at(0, &[8, 9])?;
+/// // What was written isn't synced: a crash may leave any bytes in its place.
+/// let left = disk.crash(1)?;
+/// ```
 #[derive(Drop)]
 pub struct MemoryDisk {
+    /// Where the bytes lie.
     alloc: Global,
     /// What a read gives.
     bytes: Vec<u8>,
     /// The changes since the disk was made.
     changes: Vec<Change>,
+    /// The calls so far, and which are to fail.
     calls: DiskCalls,
 }
 

@@ -28,6 +28,7 @@ pub enum LogRefusal {
     /// The gate at this place is open, and no whole record of the log's form follows it.
     #[error("the log is damaged at byte {at}")]
     Damaged { at: u64 },
+    /// There was no memory for it.
     #[error("out of memory")]
     Memory,
 }
@@ -43,13 +44,17 @@ pub type RecordsRefusal = LogRefusal;
 /// ```
 #[derive(Drop)]
 pub struct Records<D: Disk + Drop> {
+    /// Where the records stand.
     disk: D,
+    /// Where bytes are made that are to be written.
     alloc: Global,
     /// The place of the closed gate behind the records.
     gate: u64,
     /// Whether no call has failed.
     sound: bool,
+    /// The file is shorter than 2^63 bytes.
     ghost small: { gate < 2 ^ 63 },
+    /// As long as it is sound, a crash leaves what a read gives: records and a closed gate.
     ghost ready: { IsTrue sound → IsTrue D.tells → IsReady (D.seen disk) (D.left disk (D.time disk)) gate },
 }
 
@@ -235,7 +240,7 @@ fn fetch<D: Disk>(alloc: Global, disk: &mut D) -> Result<Vec<u8>, DiskRefusal>
         (D.left disk.old (D.time disk.old)) }
     ensures cause { HasCause (D.faults disk.old) (D.faults disk.new) (result ≡ Err DiskRefusal.Failed) }
 {
-    disk.sync()?;
+    disk.sync()?; // From here on a crash leaves what is read.
     let len = disk.len()?;
     let bytes = read_all(alloc, disk, len)?;
     Ok(bytes)
