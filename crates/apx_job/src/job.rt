@@ -109,6 +109,13 @@ impl Job {
         &self.parts.dag
     }
 
+    /// What its inputs read, in the order of the file.
+    pub fn inputs(&self) -> &[Windows]
+        ensures { result.now ≡ self.now.flow.inputs }
+    {
+        &self.parts.inputs
+    }
+
     /// The settings.
     pub fn settings(&self) -> Settings
         ensures value { settings_view result ≡ self.now.settings }

@@ -3,6 +3,7 @@ use Rattle.std.specs.Prelude.{ℕ, zero, suc, ◌+◌, ◌%◌, ◌==◌, List, 
 use Rattle.std.specs.List.{flat_map}
 use Rattle.apx_codec.specs.KeyNumber.{mask_of}
 use Rattle.apx_pass.specs.Graph.{Node, node_at}
+use Rattle.apx_pass.specs.Order.{order_of}
 use Rattle.apx_plan.specs.Class.{class_name}
 
 -- a label and a number
@@ -54,3 +55,7 @@ operator_text nodes number =
 -- the operators of a graph in some order
 abbrev pub operators_text : List Node → List ℕ → List ℕ
 operators_text nodes order = flat_map (operator_text nodes) order
+
+-- the plan of a graph: its operators in the order in which they step
+unfoldable pub plan_text : List Node → List ℕ
+plan_text nodes = operators_text nodes (order_of nodes)

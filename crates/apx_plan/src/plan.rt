@@ -1,10 +1,8 @@
 //! The text of a plan.
 
-ghost use Rattle.std.specs.Prelude.{◌≡◌, ℕ, List, ◌≤◌, ◌++◌, OnOk, OnErr};
-ghost use Rattle.apx_dag.specs.Graph.{sources_in};
-ghost use Rattle.apx_dag.specs.Order.{IsLinkOrder};
+ghost use Rattle.std.specs.Prelude.{◌≡◌, ◌≤◌, ◌++◌, OnOk, OnErr};
 ghost use Rattle.apx_plan.specs.Class.{class_name};
-ghost use Rattle.apx_plan.specs.Plan.{numbered, spaced, key_text, mask_text, classes_text, partition_text, partitions_text, head_text, operator_text, operators_text};
+ghost use Rattle.apx_plan.specs.Plan.{numbered, spaced, key_text, mask_text, classes_text, partition_text, partitions_text, head_text, plan_text};
 ghost use Rattle.apx_report.specs.Extends.{Extends};
 
 use crate::class::class_name;
@@ -19,8 +17,7 @@ use std::alloc::AllocError;
 ///
 /// Want of memory alone refuses it, and then the text is as it was.
 pub fn plan_text(dag: &Dag, into: &mut Vec<u8>) -> Result<(), AllocError>
-    ensures ok { OnOk result ((order : List ℕ) × IsLinkOrder (sources_in dag.now) order
-        × (into.new.items ≡ into.old.items ++ operators_text dag.now order)) }
+    ensures ok { OnOk result (into.new.items ≡ into.old.items ++ plan_text dag.now) }
     ensures err { OnErr result (into.new.items ≡ into.old.items) }
 {
     let len = into.len();
@@ -32,9 +29,9 @@ pub fn plan_text(dag: &Dag, into: &mut Vec<u8>) -> Result<(), AllocError>
 }
 
 /// Appends the operators and their partitions, in the graph's order.
+#[tactic(auto, unfolding(crate::specs::Plan::plan_text))]
 fn append_operators(dag: &Dag, into: &mut Vec<u8>) -> Result<(), AllocError>
-    ensures ok { OnOk result ((order : List ℕ) × IsLinkOrder (sources_in dag.now) order
-        × (into.new.items ≡ into.old.items ++ operators_text dag.now order)) }
+    ensures ok { OnOk result (into.new.items ≡ into.old.items ++ plan_text dag.now) }
     ensures kept { Extends into.old.items into.new.items }
 {
     let order = dag.order();
