@@ -1,23 +1,28 @@
 //! The program `apex`: its words, the system's files and its standard streams, handed to the engine.
 #![tactic(auto)]
 
-ghost use Rattle.std.specs.Prelude.{◌≡◌, ◌<◌, ◌↔◌, IsOk, IsErr};
+ghost use Rattle.std.specs.Prelude.{◌≡◌, ◌<◌, ◌↔◌, None, Err, [], IsTrue, IsOk, IsErr, IfOk, map, string_bytes};
+ghost use Rattle.apx_cause.specs.Cause.{Rose};
+ghost use Rattle.apx_load.specs.declared.refusal.Refusal.{Refusal};
+ghost use Rattle.apx_load.specs.declared.refusal.Refusal.TheVariants.{NotACommand};
+ghost use Rattle.apx_load.specs.declared.stop.Stop.TheVariants.{Refused};
+ghost use Rattle.apx_load.specs.Hearing.{HasHeard};
+ghost use Rattle.apx_load.specs.Refusals.{by_files, AreAccepted, IsRefusal};
+ghost use Rattle.apx_load.specs.Words.{command_of};
+ghost use Rattle.apx_top.specs.Plain.{HasRefused, IsLargeRun, IsComplete, status_after};
+ghost use Rattle.apex.specs.Performed.{HasPerformed};
 
-mod folder;
-mod out;
-
-use apx_device::{Failed, MemoryKeeper, Out};
+use apx_device::{Failed, Folder, MemoryKeeper, Out};
+use apx_files::{RealFolder, RealOut};
+use apx_load::Stop;
 use apx_top::{Devices, Ended, apex_plain};
-use folder::RealFolder;
-use out::RealOut;
-use std::alloc::AllocError;
-use std::env;
-use std::io::{BufWriter, ErrorKind};
+use std::alloc::{AllocError, Global};
+use std::env::{self, Args};
+use std::io::{self, ErrorKind, Write};
 use std::process::ExitCode;
-use std::rt::Env;
 
-/// How many bytes of standard output are held back until they are written together.
-const BUFFER: usize = 65_536;
+/// The most bytes of standard output that are held back until they are written together.
+const ROOM: usize = 65_536;
 
 /// The status for an output that failed.
 const OUTPUT_FAILED: u8 = 12;
@@ -27,32 +32,107 @@ const OUT_OF_MEMORY: u8 = 13;
 
 fn main(rt: HostRuntime) -> ExitCode {
     let alloc = rt.alloc();
-    let mut err = RealOut::new(rt.stderr());
-    let (Ok(words), Ok(stdout)) = (
-        words(&rt),
-        BufWriter::with_capacity(alloc, BUFFER, rt.stdout()),
-    ) else {
-        let _ = err.write(b"apex: out of memory\n");
-        return ExitCode::from(OUT_OF_MEMORY);
-    };
-    let mut out = RealOut::new(stdout);
     let mut files = RealFolder::new(&rt);
-    let keeper = MemoryKeeper::new(alloc);
-    let devices = Devices { keeper };
-    let Ended {
-        status,
-        end: _,
-        devices: Devices { keeper: _ },
-    } = apex_plain(alloc, &words, &mut files, devices, &mut out, &mut err);
-    ExitCode::from(exit_status(status, out.finish()))
+    let words = words(alloc, env::args(&rt));
+    ExitCode::from(program(alloc, words, &mut files, rt.stdout(), rt.stderr()))
 }
 
-// The words after the program's name. With a word that isn't text there are none, which is no command.
-fn words<R: Env + AllocGlobal>(rt: &R) -> Result<Vec<String>, AllocError> {
-    match env::args(rt) {
-        Ok(args) => args.skip(1).collect(rt.alloc()),
-        Err(error) if error.kind() == ErrorKind::InvalidData => Ok(Vec::new(rt.alloc())),
-        Err(_) => Err(AllocError),
+// Does what the words ask for, where the system could give them, and ends with the status of the process.
+fn program<F: Folder, W: Write + Drop, V: Write + Drop>(
+    alloc: Global,
+    words: Result<Vec<String>, AllocError>,
+    files: &mut F,
+    stdout: W,
+    stderr: V,
+) -> u8
+    ensures { IsErr words → result ≡ OUT_OF_MEMORY }
+{
+    let mut err = RealOut::new(alloc, stderr, 0);
+    match words {
+        Ok(words) => perform(alloc, &words, files, stdout, &mut err).status,
+        Err(AllocError) => {
+            let _ = err.write(b"apex: out of memory\n");
+            OUT_OF_MEMORY
+        }
+    }
+}
+
+/// What the program did.
+#[derive(Drop)]
+pub(crate) struct Performed {
+    /// The status of the process.
+    pub(crate) status: u8,
+    /// Why the run stopped, unless it came to its end.
+    pub(crate) end: Result<(), Stop>,
+    /// The store, which ends with the process.
+    pub(crate) keeper: MemoryKeeper,
+    /// How many writes to standard output failed, up to the last value of the type.
+    pub(crate) faults: u64,
+}
+
+// Does what the words ask for, with a store in memory.
+//
+// Standard output is held back and finished at the end, whatever the status; the error output isn't held back.
+fn perform<F: Folder, W: Write + Drop, E: Out>(
+    alloc: Global,
+    words: &[String],
+    files: &mut F,
+    stdout: W,
+    err: &mut E,
+) -> Performed
+    // Whatever its folder answers, it ends in a way that these answers allow.
+    ensures heard { HasHeard F.tells (F.told files.old) (F.heard files.old) (F.heard files.new) (λ answers.
+        HasPerformed (map string_bytes words.now) answers (Rose (F.faults files.old) (F.faults files.new)) result.keeper result.end) }
+
+    // Words that are no command are told so, and no others.
+    ensures command { (command_of (map string_bytes words.now) ≡ None) ↔ (result.end ≡ Err (Refused NotACommand)) }
+
+    // Where the folder tells its files, what words and files refuse first is refused, unless the folder fails.
+    ensures refused { IsTrue F.tells → (refusal : Refusal) → IsRefusal (by_files (F.told files.old)) (map string_bytes words.now) refusal →
+        HasRefused (Rose (F.faults files.old) (F.faults files.new)) refusal result.end }
+
+    // And what is accepted is done, unless the folder or standard output fails.
+    ensures complete { IsTrue F.tells → AreAccepted (by_files (F.told files.old)) (map string_bytes words.now) →
+        (Rose (F.faults files.old) (F.faults files.new) → ⊥) → result.faults ≡ 0 →
+        IsComplete (IsLargeRun (by_files (F.told files.old)) (map string_bytes words.now)) result.end }
+
+    // The status is that of the end; a good end has 0 exactly where all output was written, and else 12.
+    ensures done { (result.status ≡ 0) ↔ (IsOk result.end × (result.faults ≡ 0)) }
+    ensures stopped { IsErr result.end → result.status ≡ status_after result.end }
+    ensures lost { IsOk result.end → 0 < result.faults → result.status ≡ OUTPUT_FAILED }
+{
+    let mut out = RealOut::new(alloc, stdout, ROOM);
+    let keeper = MemoryKeeper::new(alloc);
+    let Ended {
+        status,
+        end,
+        devices: Devices { keeper },
+    } = apex_plain(alloc, words, files, Devices { keeper }, &mut out, err);
+    let status = exit_status(status, out.finish());
+    Performed {
+        status,
+        end,
+        keeper,
+        faults: out.faults(),
+    }
+}
+
+// The words after the program's name.
+fn words(alloc: Global, args: io::Result<Args<Global>>) -> Result<Vec<String>, AllocError> {
+    match args {
+        Ok(args) => args.skip(1).collect(alloc),
+        Err(error) => no_words(alloc, error.kind()),
+    }
+}
+
+// What stands for words that the system can't give: none, which is no command, where one isn't text.
+fn no_words(alloc: Global, kind: ErrorKind) -> Result<Vec<String>, AllocError>
+    ensures text { IsOk result ↔ (kind ≡ ErrorKind.InvalidData) }
+    ensures none { IfOk result (λ words. words.items ≡ []) }
+{
+    match kind {
+        ErrorKind::InvalidData => Ok(Vec::new(alloc)),
+        _ => Err(AllocError),
     }
 }
 

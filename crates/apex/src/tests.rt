@@ -1,63 +1,97 @@
-// Each call of the real folder and outputs with ample memory, over what every Linux system has.
-use super::exit_status;
-use crate::folder::RealFolder;
-use crate::out::RealOut;
-use apx_device::{Failed, Folder, Out, ReadRefusal};
-use std::alloc::Global;
-use std::io::BufWriter;
+// The program over folders, words and streams in memory.
+use crate::{exit_status, no_words, program, words};
+use apx_device::{Failed, MemoryFolder};
+use std::alloc::{AllocError, Global};
+use std::io::ErrorKind;
 use std::test::Fail;
 
+/// Counts the lines of in.txt, two to a window.
+const COUNTED: &str =
+    r#"{"operators":[{"name":"read","class":"lines","properties":{"file":"in.txt","perWindow":2}},{"name":"out","class":"store"}],"streams":[{"name":"s1","source":{"operatorName":"read","portName":"output"},"sinks":[{"operatorName":"out","portName":"input"}]}]}"#;
+
+/// What a run of it over the lines b, a prints.
+const PRINTED: &str = "window 1 4294967296000000000 2\na\t1\nb\t1\n";
+
+fn folder(alloc: Global) -> Result<MemoryFolder, AllocError> {
+    let mut files = MemoryFolder::new(alloc);
+    files.add(
+        alloc,
+        "app.json",
+        Vec::from_slice(alloc, COUNTED.as_bytes())?,
+    )?;
+    files.add(alloc, "in.txt", Vec::from_slice(alloc, b"b\na")?)?;
+    Ok(files)
+}
+
+fn given(alloc: Global, words: &[&str]) -> Result<Vec<String>, AllocError> {
+    let mut texts = Vec::new(alloc);
+    for word in words {
+        texts.push(String::from_str(alloc, word)?)?;
+    }
+    Ok(texts)
+}
+
+/// The bytes that were written to the front of a room of zeros.
+fn front(room: &[u8]) -> &[u8] {
+    let end = room.iter().position(|byte| *byte == 0);
+    &room[..end.unwrap_or(room.len()).min(room.len())]
+}
+
 #[test]
-fn a_file_is_read_to_its_end_or_past_its_limit(rt: HostRuntime) -> Result<(), Fail> {
-    let mut files = RealFolder::new(&rt);
-    assert_eq!(rt; files.read(rt.alloc(), "/dev/null", 0)?.len(), 0);
-    assert_eq!(rt;
-        files.read(rt.alloc(), "/dev/zero", 100_000).err(),
-        Some(ReadRefusal::TooLong)
-    );
-    assert_eq!(rt; files.faults(), 0);
+fn each_end_has_its_status_and_its_streams(rt: HostRuntime) -> Result<(), Fail> {
+    let alloc = rt.alloc();
+    for (words, out_room, status, out, err) in [
+        (&["sim", "app.json"][..], 80, 0, PRINTED, ""),
+        (&["check", "app.json"][..], 80, 0, "ok\n", ""),
+        (
+            &["sim", "app.json", "more"][..],
+            80,
+            1,
+            "",
+            "apex: not a command\n",
+        ),
+        (
+            &["sim", "no.json"][..],
+            80,
+            3,
+            "",
+            "apex: no file no.json\n",
+        ),
+        (&["sim", "app.json"][..], 10, 12, "window 1 4", ""),
+    ] {
+        let mut rooms = ([0u8; 80], [0u8; 80]);
+        let found = program(
+            alloc,
+            Ok(given(alloc, words)?),
+            &mut folder(alloc)?,
+            &mut rooms.0[..out_room],
+            rooms.1.as_mut_slice(),
+        );
+        assert_eq!(rt; found, status, "at {status}");
+        assert_eq!(rt; front(&rooms.0), out.as_bytes(), "at {status}");
+        assert_eq!(rt; front(&rooms.1), err.as_bytes(), "at {status}");
+    }
     Ok(())
 }
 
 #[test]
-fn a_missing_file_is_no_fault_and_a_folder_is_one(rt: HostRuntime) {
-    let mut files = RealFolder::new(&rt);
-    for (name, refusal, faults) in [
-        ("/dev/no such file", ReadRefusal::Absent, 0),
-        ("/dev", ReadRefusal::Failed, 1),
-        ("/dev/null/file", ReadRefusal::Failed, 2),
-        ("a\0b", ReadRefusal::Failed, 3),
-    ] {
-        assert_eq!(rt;
-            files.read(rt.alloc(), name, 9).err(),
-            Some(refusal),
-            "at {name:?}"
-        );
-        assert_eq!(rt; files.faults(), faults, "at {name:?}");
-    }
-}
-
-#[test]
-fn a_writer_that_takes_nothing_is_a_fault(rt: HostRuntime) {
-    let mut room = [0u8; 3];
-    let mut out = RealOut::new(room.as_mut_slice());
-    assert_eq!(rt; out.write(b"ab"), Ok(2));
-    assert_eq!(rt; out.write(b"cd"), Ok(1));
-    assert_eq!(rt; out.write(b""), Ok(0));
-    assert_eq!(rt; out.faults(), 0);
-    assert_eq!(rt; out.write(b"d"), Err(Failed));
-    assert_eq!(rt; out.faults(), 1);
-}
-
-#[test]
-fn bytes_held_back_are_handed_on_or_a_fault(rt: HostRuntime) -> Result<(), Fail> {
-    for (room, finished, faults) in [(2, Ok(()), 0), (1, Err(Failed), 1)] {
-        let mut room = vec![in rt.alloc(); 0u8; room]?;
-        let mut out = RealOut::new(BufWriter::with_capacity(rt.alloc(), 8, room.as_mut_slice())?);
-        assert_eq!(rt; out.write(b"ab"), Ok(2));
-        assert_eq!(rt; out.finish(), finished);
-        assert_eq!(rt; out.faults(), faults);
-    }
+fn words_that_the_system_can_not_give(rt: HostRuntime) -> Result<(), Fail> {
+    let alloc = rt.alloc();
+    assert_eq!(rt; no_words(alloc, ErrorKind::InvalidData)?.len(), 0);
+    assert!(rt; no_words(alloc, ErrorKind::OutOfMemory).is_err());
+    let mut rooms = ([0u8; 30], [0u8; 30]);
+    let status = program(
+        alloc,
+        Err(AllocError),
+        &mut folder(alloc)?,
+        rooms.0.as_mut_slice(),
+        rooms.1.as_mut_slice(),
+    );
+    assert_eq!(rt; status, 13);
+    assert_eq!(rt; front(&rooms.0).len(), 0);
+    assert_eq!(rt; front(&rooms.1), b"apex: out of memory\n".as_slice());
+    let three = given(alloc, &["apex", "sim", "app.json"])?;
+    assert_eq!(rt; words(alloc, Ok(three.into_iter()))?.len(), 2);
     Ok(())
 }
 

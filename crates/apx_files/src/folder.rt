@@ -1,10 +1,10 @@
 // The folder that the system's file names lead to.
-ghost use Rattle.std.specs.Prelude.{◌≡◌, ◌<◌, ◌≤◌, false, None, length, ⊤, IfOk, IfSome};
+ghost use Rattle.std.specs.Prelude.{◌≡◌, ◌≢◌, ◌↔◌, ◌<◌, ◌≤◌, Err, false, None, length, ⊤, IfOk, IfSome};
 
 use apx_device::{Folder, ReadRefusal};
 use std::alloc::Global;
 use std::fs;
-use std::io::{ErrorKind, Read};
+use std::io::{self, ErrorKind, Read};
 use std::rt::Files;
 
 /// How many bytes one read asks for.
@@ -14,14 +14,16 @@ const PIECE: usize = 32_768;
 /// tells no content. `Absent` comes where the system finds no such file; that it says so rightly is
 /// taken from the system.
 #[derive(Drop)]
-pub(crate) struct RealFolder<'a, R> {
+pub struct RealFolder<'a, R> {
+    /// The files of the system.
     system: &'a R,
+    /// How many reads have failed, up to the last value of the type.
     faults: u64,
 }
 
 impl<'a, R: Files> RealFolder<'a, R> {
     /// The system's files, with no fault counted.
-    pub(crate) fn new(system: &'a R) -> Self
+    pub fn new(system: &'a R) -> Self
         ensures { result.faults ≡ 0 }
     {
         RealFolder { system, faults: 0 }
@@ -59,11 +61,35 @@ fn read_file<R: Files>(
 ) -> Result<Vec<u8>, ReadRefusal>
     ensures { IfOk result (λ bytes. length bytes.items ≤ limit) }
 {
-    match fs::open(system, name) {
-        Ok(mut file) => read_to_end(alloc, &mut file, limit),
-        Err(error) if error.kind() == ErrorKind::NotFound => Err(ReadRefusal::Absent),
-        Err(error) if error.kind() == ErrorKind::OutOfMemory => Err(ReadRefusal::Memory),
-        Err(_) => Err(ReadRefusal::Failed),
+    read_opened(alloc, fs::open(system, name), limit)
+}
+
+// All that a reader that was opened has left, where it is no more than the limit, or why it wasn't opened.
+pub fn read_opened<S: Read + Drop>(
+    alloc: Global,
+    opened: io::Result<S>,
+    limit: usize,
+) -> Result<Vec<u8>, ReadRefusal>
+    ensures within { IfOk result (λ bytes. length bytes.items ≤ limit) }
+    ensures whole { IfOk opened (λ source. IfOk result (λ bytes. IfSome (S.remaining source) (λ all. bytes.items ≡ all))) }
+    ensures long { IfOk opened (λ source. result ≡ Err ReadRefusal.TooLong → IfSome (S.remaining source) (λ all. limit < length all)) }
+{
+    match opened {
+        Ok(mut source) => read_to_end(alloc, &mut source, limit),
+        Err(error) => Err(unopened(error.kind())),
+    }
+}
+
+// Why a file wasn't opened: only one that isn't there is absent.
+pub fn unopened(kind: ErrorKind) -> ReadRefusal
+    ensures absent { (result ≡ ReadRefusal.Absent) ↔ (kind ≡ ErrorKind.NotFound) }
+    ensures memory { (result ≡ ReadRefusal.Memory) ↔ (kind ≡ ErrorKind.OutOfMemory) }
+    ensures fault { (result ≡ ReadRefusal.Failed) ↔ ((kind ≢ ErrorKind.NotFound) × (kind ≢ ErrorKind.OutOfMemory)) }
+{
+    match kind {
+        ErrorKind::NotFound => ReadRefusal::Absent,
+        ErrorKind::OutOfMemory => ReadRefusal::Memory,
+        _ => ReadRefusal::Failed,
     }
 }
 
