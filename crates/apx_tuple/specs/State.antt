@@ -27,7 +27,9 @@ with_entry pairs key value = insert_entry key_order pairs key value
 abbrev pub without_entry : List Pair → List ℕ → List Pair
 without_entry pairs key = remove_entry (λ k. is_eq (key_order key k)) pairs
 
--- what each state is: its keys ascend, each once, and it is not large
+-- what each state is
 pub record IsState (pairs : List Pair) : Type 0 where
+  -- its keys ascend, each once
   pub ascends : IsStrictlySortedBy key_order (keys_of pairs)
+  -- it is below the size that is too large
   pub small : size_by pair_key pairs < 4294967232

@@ -23,7 +23,9 @@ tuple_key t = t.key
 abbrev pub bag_of : List Tuple → List Tuple
 bag_of = sorted tuple_order
 
--- what each bag is: ascending, and not large
+-- what each bag is
 pub record IsBag (tuples : List Tuple) : Type 0 where
+  -- its tuples ascend, repeats kept
   pub ascends : IsAscending tuple_order tuples
+  -- it is below the size that is too large
   pub small : size_by tuple_key tuples < 4294967232
