@@ -6,8 +6,11 @@ ghost use Rattle.apx_cause.specs.Cause.{HasCause};
 /// The numbers of the calls that are to fail, counted from 1, with the calls made and the faults so far.
 #[derive(Drop)]
 pub(crate) struct FailingCalls {
+    /// The numbers of the calls that are to fail.
     pub(crate) numbers: Vec<u64>,
+    /// How many calls there were, up to the last value of the type.
     pub(crate) made: u64,
+    /// How many of them failed, up to the last value of the type.
     pub(crate) faults: u64,
 }
 

@@ -18,6 +18,7 @@ pub enum ReadRefusal {
     /// The folder failed, and has counted that.
     #[error("the file can't be read")]
     Failed,
+    /// There was no memory for it.
     #[error("out of memory")]
     Memory,
 }

@@ -18,6 +18,10 @@ pub trait Gate {
 }
 
 /// A gate that does nothing.
+///
+/// ```
+/// NoGate.pass(PassKind::Claimed, 2, 0, 1);
+/// ```
 #[derive(Clone, Copy, Debug, Default, Drop)]
 pub struct NoGate;
 

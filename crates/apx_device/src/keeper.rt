@@ -17,6 +17,7 @@ pub enum KeepRefusal {
     /// The keeper failed, and has counted that.
     #[error("the sink's store failed")]
     Failed,
+    /// There was no memory for it.
     #[error("out of memory")]
     Memory,
 }

@@ -9,8 +9,15 @@ use std::alloc::{AllocError, Global};
 use std::collections::BTreeMap;
 
 /// Files by name. No read of it fails.
+///
+/// ```
+/// let mut folder = MemoryFolder::new(alloc);
+/// folder.add(alloc, "in.txt", b"to be".to_vec(alloc)?)?;
+/// let bytes = folder.read(alloc, "in.txt", 1024)?;
+/// ```
 #[derive(Drop)]
 pub struct MemoryFolder {
+    /// The bytes of each file, by its name.
     files: BTreeMap<String, Vec<u8>>,
 }
 
@@ -64,9 +71,16 @@ impl Folder for MemoryFolder {
 }
 
 /// A folder in memory of which some reads fail.
+///
+/// ```
+/// // The second read is to fail.
+/// let mut folder = FailingFolder::new(files, vec![in alloc; 2]?);
+/// ```
 #[derive(Drop)]
 pub struct FailingFolder {
+    /// The files.
     folder: MemoryFolder,
+    /// The reads so far, and which are to fail.
     calls: FailingCalls,
 }
 
@@ -123,6 +137,11 @@ impl Folder for FailingFolder {
 ///
 /// So a file that is read twice may come in two forms. Once the list is at its end, each read is told that
 /// there is no such file.
+///
+/// ```
+/// let mut folder = ListedFolder::new(vec![in alloc; first, second]?);
+/// let bytes = folder.read(alloc, "any.txt", 1024)?;
+/// ```
 #[derive(Drop)]
 pub struct ListedFolder {
     /// What is given at each read in turn.

@@ -21,14 +21,24 @@ pub(crate) struct StoredWindow {
     count: u32,
     /// The rows' bytes, one row behind the other.
     bytes: Vec<u8>,
+    /// The bytes are so many rows.
     ghost whole: { is_some (rows_in count bytes.items) ≡ true },
 }
 
 /// The rows of each window in order. No call of it fails.
+///
+/// ```
+/// let mut keeper = MemoryKeeper::new(alloc);
+/// keeper.commit(1, &rows)?;
+/// let again = keeper.rows(alloc, 1)?;
+/// ```
 #[derive(Drop)]
 pub struct MemoryKeeper {
+    /// Where the windows lie.
     alloc: Global,
+    /// The windows, from window 1 on.
     windows: Vec<StoredWindow>,
+    /// Each has a number of 32 bits.
     ghost countable: { vec_len windows < 2 ^ 32 },
 }
 
@@ -127,9 +137,16 @@ impl Keeper for MemoryKeeper {
 }
 
 /// A keeper in memory of which some commits and reads fail.
+///
+/// ```
+/// // The first call is to fail, and stores nothing.
+/// let mut keeper = FailingKeeper::new(MemoryKeeper::new(alloc), vec![in alloc; 1]?, false);
+/// ```
 #[derive(Drop)]
 pub struct FailingKeeper {
+    /// The windows.
     keeper: MemoryKeeper,
+    /// The commits and reads so far, and which are to fail.
     calls: FailingCalls,
     /// Whether a failing commit is stored before it fails.
     stores_first: bool,

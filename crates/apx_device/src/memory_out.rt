@@ -7,9 +7,17 @@ use crate::{Failed, Out};
 use std::alloc::Global;
 
 /// The bytes that were written. A write for which there is no memory is a fault. A write that fails takes nothing.
+///
+/// ```
+/// let mut out = MemoryOut::new(alloc);
+/// let taken = out.write(b"window 1")?;
+/// assert_eq!(rt; out.written(), b"window 1".as_slice());
+/// ```
 #[derive(Drop)]
 pub struct MemoryOut {
+    /// The bytes.
     written: Vec<u8>,
+    /// The writes so far, and which are to fail.
     calls: FailingCalls,
 }
 

@@ -10,9 +10,17 @@ use std::collections::BTreeMap;
 use std::convert::Infallible;
 
 /// Pieces by number. No call of it fails.
+///
+/// ```
+/// let mut spool = MemorySpool::new(alloc);
+/// spool.put(7, &piece)?;
+/// let again = spool.fetch(alloc, 7)?;
+/// ```
 #[derive(Drop)]
 pub struct MemorySpool {
+    /// Where the pieces lie.
     alloc: Global,
+    /// The bytes of each piece, by its number.
     pieces: BTreeMap<u64, Vec<u8>>,
 }
 
@@ -60,8 +68,13 @@ impl Spool for MemorySpool {
 }
 
 /// Makes empty spools in memory. No call of it or of its spools fails.
+///
+/// ```
+/// let mut spool = MemorySpools::new(alloc).fresh()?;
+/// ```
 #[derive(Clone, Copy, Debug)]
 pub struct MemorySpools {
+    /// Where the pieces are to lie.
     alloc: Global,
 }
 
@@ -95,8 +108,11 @@ pub struct SpoolFault(());
 /// A spool in memory of which some puts and fetches fail.
 #[derive(Drop)]
 pub struct FailingSpool {
+    /// The pieces.
     spool: MemorySpool,
+    /// The puts so far, and which are to fail.
     puts: FailingCalls,
+    /// The fetches so far, and which are to fail.
     fetches: FailingCalls,
 }
 
@@ -159,11 +175,20 @@ impl Spool for FailingSpool {
 }
 
 /// Makes spools in memory that fail by number, and fails by number itself.
+///
+/// ```
+/// // The third spool is to fail, and of each spool the first put.
+/// let mut spools = FailingSpools::new(alloc, vec![in alloc; 3]?, vec![in alloc; 1]?, Vec::new(alloc));
+/// ```
 #[derive(Drop)]
 pub struct FailingSpools {
+    /// Where the pieces are to lie.
     alloc: Global,
+    /// The spools asked for so far, and which are to fail.
     calls: FailingCalls,
+    /// Which puts of each spool are to fail.
     puts: Vec<u64>,
+    /// Which fetches of each spool are to fail.
     fetches: Vec<u64>,
 }
 
@@ -233,6 +258,7 @@ impl Spools for FailingSpools {
 /// A spool in memory that tells nothing: under one number it gives other bytes than were put there.
 #[derive(Drop)]
 pub struct WrongSpool {
+    /// The pieces as they were put.
     spool: MemorySpool,
     /// The number under which it gives the wrong piece.
     number: u64,
@@ -266,10 +292,17 @@ impl Spool for WrongSpool {
 }
 
 /// Makes spools in memory that give one wrong piece.
+///
+/// ```
+/// let mut spools = WrongSpools::new(alloc, 7, wrong);
+/// ```
 #[derive(Drop)]
 pub struct WrongSpools {
+    /// Where the pieces are to lie.
     alloc: Global,
+    /// The number under which each spool gives the wrong piece.
     number: u64,
+    /// What it gives there.
     wrong: Vec<u8>,
 }
 

@@ -15,10 +15,19 @@ use std::alloc::Global;
 use std::collections::BTreeMap;
 
 /// Bytes by id. No call of it fails.
+///
+/// ```
+/// let mut vault = MemoryVault::new(alloc);
+/// vault.put(id, &bytes)?;
+/// let again = vault.get(alloc, id)?;
+/// ```
 #[derive(Drop)]
 pub struct MemoryVault {
+    /// Where the entries lie.
     alloc: Global,
+    /// The bytes under each id.
     entries: BTreeMap<SaveId, Vec<u8>>,
+    /// The ids ascend.
     ghost ordered: { IsStrictlySortedBy save_order (keys entries) } by { Prim.hlevel props },
 }
 
@@ -89,9 +98,16 @@ impl Vault for MemoryVault {
 }
 
 /// A vault in memory of which some calls fail. A call that fails leaves the entries as they were.
+///
+/// ```
+/// // The second call is to fail.
+/// let mut vault = FailingVault::new(MemoryVault::new(alloc), vec![in alloc; 2]?);
+/// ```
 #[derive(Drop)]
 pub struct FailingVault {
+    /// The entries.
     vault: MemoryVault,
+    /// The calls so far, and which are to fail.
     calls: FailingCalls,
 }
 
@@ -200,6 +216,10 @@ impl Vault for FailingVault {
 }
 
 /// A vault in memory that tells nothing: under each id it gives the same bytes, and it keeps nothing.
+///
+/// ```
+/// let mut vault = GivenVault::new(bytes);
+/// ```
 #[derive(Drop)]
 pub struct GivenVault {
     /// What each get gives.

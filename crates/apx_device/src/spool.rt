@@ -14,6 +14,7 @@ pub enum SpoolRefusal<F> {
     /// The spool failed, and this tells how.
     #[error("the spool failed")]
     Fault(F),
+    /// There was no memory for it.
     #[error("out of memory")]
     Memory,
 }
@@ -54,12 +55,14 @@ pub enum SpoolsRefusal {
     /// The maker failed, and has counted that.
     #[error("no spool can be made")]
     Failed,
+    /// There was no memory for it.
     #[error("out of memory")]
     Memory,
 }
 
 /// A maker of spools.
 pub trait Spools {
+    /// The spools that it makes.
     type S: Spool + Drop + Send;
 
     /// How many faults there were in making spools.

@@ -30,6 +30,7 @@ pub enum VaultRefusal {
     /// The vault failed, and has counted that.
     #[error("the checkpoint store failed")]
     Failed,
+    /// There was no memory for it.
     #[error("out of memory")]
     Memory,
 }
