@@ -5,3 +5,4 @@ pub mod Entries
 pub mod Histories
 pub mod InMemory
 pub mod Log
+pub mod Opening

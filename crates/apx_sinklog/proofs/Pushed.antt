@@ -1,10 +1,9 @@
 -- A window more joins those that a file spells.
 use Rattle.std.proofs.Common.{◌≡◌, ◌⊎◌, inl, inr, ℕ, ◌+◌, List, [], ◌∷◌, ◌++◌, length, Option, Some, None, Result, Ok, Err, refl, sym, ap, ◌∙◌, subst, arith}
 use Rattle.apx_tuple.specs.declared.tuple.Tuple.{Tuple}
-use Rattle.apx_cause.specs.Steps.{Steps, OneOf}
-use Rattle.apx_cause.proofs.Going.{weaker, lifted}
-use Rattle.apx_disk.specs.Log.{Entry, Log, read_log, with_record, Grows, SpellsOne}
-use Rattle.apx_sinklog.specs.Opening.{Opens, LeftWindows, SinksOne}
+use Rattle.apx_cause.specs.Steps.{Steps}
+use Rattle.apx_cause.proofs.Going.{weaker}
+use Rattle.apx_disk.specs.Log.{Entry, Log, read_log, with_record, Grows}
 use Rattle.apx_sinklog.specs.declared.logged.LoggedWindow.{LoggedWindow}
 use Rattle.apx_sinklog.specs.Logged.{logged_rows, logged_windows}
 use Rattle.apx_sinklog.specs.Windows.{window_in, before, windows_in, windows_of_log, sink_of}
@@ -54,21 +53,6 @@ store_crash file body windows rows is found steps =
       | inl same ↦ inl (ap windows_of_log same ∙ is)
       | inr more ↦ inr (sink_push file image body windows rows is found more)
     ]) steps
-
--- what a crash leaves of a log while a window is added, in windows
-pub commit_crash : {earlier now : ℕ} {old new : ℕ → List ℕ → Type 0} (stored after : List (List Tuple)) → Steps earlier now old new (λ image. (sink_of image ≡ Ok stored) ⊎ (sink_of image ≡ Ok after))
-    → Steps earlier now (λ t windows. LeftWindows (old t) windows) (λ t windows. LeftWindows (new t) windows) (OneOf stored after)
-commit_crash stored after steps =
-    lifted (λ (image : List ℕ) (windows : List (List Tuple)). Opens (sink_of image) windows)
-    (λ image windows spelled opens. elim spelled [
-      | inl is ↦ inl (sym (subst (λ (r : Result (List (List Tuple)) ℕ). Opens r windows) is opens))
-      | inr is ↦ inr (sym (subst (λ (r : Result (List (List Tuple)) ℕ). Opens r windows) is opens))
-    ])
-    steps
-
--- the records' opening, in windows
-pub sinks_crash : {earlier now : ℕ} {old new : ℕ → List ℕ → Type 0} → Steps earlier now old new (SpellsOne (old earlier)) → Steps earlier now old new (SinksOne (old earlier))
-sinks_crash steps = weaker (λ image one. (one.0, one.1, ap windows_of_log one.2)) steps
 
 pub logged-push : (windows : List LoggedWindow) (window : LoggedWindow) → logged_windows (windows ++ window ∷ []) ≡ logged_windows windows ++ logged_rows window ∷ []
 logged-push [] window = refl

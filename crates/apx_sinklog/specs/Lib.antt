@@ -1,4 +1,2 @@
-pub mod Laws
 pub mod Logged
-pub mod Opening
 pub mod Windows

@@ -7,7 +7,7 @@ ghost use Rattle.apx_cause.specs.Cause.{HasCause};
 ghost use Rattle.apx_cause.specs.Steps.{Steps};
 ghost use Rattle.apx_device.specs.Keeper.{LeftBy, StaysSound};
 ghost use Rattle.apx_disk.specs.Entries.{entry_of};
-ghost use Rattle.apx_sinklog.specs.Opening.{SinksOne};
+ghost use Rattle.apx_disk.specs.Opening.{ReadsOne};
 ghost use Rattle.apx_sinklog.specs.Windows.{windows_in, sink_of};
 ghost use Rattle.apx_sinklog.specs.Logged.{logged_windows};
 
@@ -50,9 +50,9 @@ impl<D: Disk + Drop> SinkLog<D> {
         ensures damaged { IsTrue D.tells → IfErr result (λ stop. (at : ℕ) → stop.1 ≡ LogRefusal.Damaged at →
             sink_of (D.seen disk) ≡ Err at) }
         ensures crash { IsTrue D.tells → IfOk result (λ log. Steps (D.time disk) (D.time log.records.disk) (D.left disk)
-            (D.left log.records.disk) (SinksOne (D.left disk (D.time disk)))) }
+            (D.left log.records.disk) (ReadsOne sink_of (D.left disk (D.time disk)))) }
         ensures crash_err { IsTrue D.tells → IfErr result (λ stop. Steps (D.time disk) (D.time stop.0) (D.left disk)
-            (D.left stop.0) (SinksOne (D.left disk (D.time disk)))) }
+            (D.left stop.0) (ReadsOne sink_of (D.left disk (D.time disk)))) }
         ensures faults { IfOk result (λ log. D.faults disk ≤ D.faults log.records.disk) }
         ensures cause { IfErr result (λ stop. HasCause (D.faults disk) (D.faults stop.0) (stop.1 ≡ LogRefusal.Disk)) }
     {
@@ -149,8 +149,7 @@ fn keep(windows: &mut Vec<LoggedWindow>, window: LoggedWindow) -> Result<(), All
 }
 
 impl<D: Disk + Drop> Keeper for SinkLog<D> {
-    ghost use Rattle.apx_sinklog.specs.Opening.{LeftWindows};
-    ghost use Rattle.apx_sinklog.specs.Laws.{settled_windows};
+    ghost use Rattle.apx_disk.specs.Opening.{LeavesOne, settled_content};
 
     ghost tells = { D.tells };
 
@@ -164,12 +163,12 @@ impl<D: Disk + Drop> Keeper for SinkLog<D> {
 
     ghost time = { λ log. D.time log.records.disk };
 
-    ghost left = { λ log t windows. LeftWindows (D.left log.records.disk t) windows };
+    ghost left = { λ log t windows. LeavesOne sink_of (D.left log.records.disk t) windows };
 
     ghost counted = { λ log tells. refl };
 
     ghost settled = { λ log windows tells sound left.
-        settled_windows (D.seen log.records.disk) (D.left log.records.disk (D.time log.records.disk))
+        settled_content sink_of (D.seen log.records.disk) (D.left log.records.disk (D.time log.records.disk))
         (logged_windows log.windows.items) windows (log.records.ready sound tells).only (log.spelled sound tells) left };
 
     ghost counts = { λ log t windows tells le left.
