@@ -1,4 +1,5 @@
+pub mod Coming
 pub mod Gathering
-pub mod Rows
+pub mod Keeping
 pub mod Sinks
 pub mod Turn

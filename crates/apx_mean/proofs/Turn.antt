@@ -1,15 +1,30 @@
 -- One turn of the loop over the operators in their order.
-use Rattle.std.proofs.Common.{◌≡◌, ℕ, suc, ◌+◌, ◌<◌, ◌≤◌, List, [], ◌∷◌, ◌++◌, length, take, map, get_or, slice_index, Option, refl, sym, ap, ◌∙◌, subst, arith, length-take-le}
+use Rattle.std.proofs.Common.{◌≡◌, ℕ, suc, Bool, true, false, cond, ◌+◌, ◌<◌, ◌≤◌, List, [], ◌∷◌, ◌++◌, length, take, map, get_or, slice_index, Option, refl, sym, ap, ◌∙◌, subst, arith, length-take-le}
 use Rattle.std.proofs.lemmas.List.{take_more, map_push, get_or-map, length-map}
 use Rattle.apx_tuple.specs.declared.progress.Progress.{Progress}
 use Rattle.apx_tuple.specs.declared.tuple.Tuple.{Tuple}
-use Rattle.apx_pass.specs.Graph.{Node, node_at}
+use Rattle.std.specs.Bool.{MatchBool}
+use Rattle.std.specs.Prelude.{⊤}
+use Rattle.apx_tuple.specs.Kind.{has_right}
+use Rattle.apx_pass.specs.Graph as graph
+use Rattle.apx_pass.specs.Graph.{Role, Inner, Sink, Node, node_at}
 use Rattle.apx_pass.specs.Groups.{Input}
 use Rattle.apx_pass.specs.Large.{IsLargePassed, IsLargeDataflow, right_came}
-use Rattle.apx_pass.specs.Order.{IsOrder}
+use Rattle.apx_pass.specs.Order.{IsOrder, OfPorts}
 use Rattle.apx_pass.specs.Pass.{Dataflow, Passed, at_start, pass_node, pass_window, progress_after, rows_at, input_at, windows}
-use Rattle.apx_pass.proofs.Passing.{pass_window-node}
-use Rattle.apx_mean.specs.Views.{IsPassed}
+use Rattle.apx_pass.proofs.Passing.{pass_role-ports, pass_window-node}
+use Rattle.apx_mean.specs.Views.{IsPassed, IsInner, AreCome}
+
+-- what comes on the ports of an inner operator
+large-came : (role : Role) → IsInner role → (left left' right right' : List Tuple) → OfPorts role (left ≡ left') (right ≡ right') → (left ≡ left') × (right_came role right ≡ right_came role right')
+unfolding OfPorts right_came
+large-came (Inner kind) inner left left' right right' h = (h.0, by (has_right kind) h.1)
+  where
+    by : (b : Bool) → MatchBool b (right ≡ right') ⊤ → cond b right [] ≡ cond b right' []
+    by true e = e
+    by false e = refl
+large-came (graph.Input kind file per_window) inner left left' right right' h = absurd inner
+large-came Sink inner left left' right right' h = absurd inner
 
 module _ (flow : Dataflow) (order : List ℕ) (o : IsOrder flow.nodes order) (passed : ℕ) where
   -- what each operator gives and carries, by the rows of its sources
@@ -28,20 +43,28 @@ module _ (flow : Dataflow) (order : List ℕ) (o : IsOrder flow.nodes order) (pa
 
   module _ (k : ℕ) (h : k < length order) (node : Node) (n : node ≡ node_at flow.nodes (slice_index order k)) (input : Option Input) (i : input ≡ input_at flow (slice_index order k))
       (before : Progress) (b : before ≡ progress_after flow passed (slice_index order k)) (w : ℕ) (e : w ≡ suc passed) where
-    same : pass_node node input w before (rows_at flow (suc passed) node.left) (rows_at flow (suc passed) node.right) ≡ pass_window flow (suc passed) (progress_after flow passed) (slice_index order k)
-    same = (λ j. pass_node (n j) (i j) (e j) (b j) (rows_at flow (suc passed) (n j).left) (rows_at flow (suc passed) (n j).right)) ∙ sym (turn k h)
+    module _ (left right : List Tuple) (come : AreCome (rows_at flow (suc passed)) (node_at flow.nodes (slice_index order k)) left right) where
+      here-come : AreCome (rows_at flow (suc passed)) node left right
+      here-come = subst (λ (x : Node). AreCome (rows_at flow (suc passed)) x left right) (sym n) come
 
-    -- what the code makes of the operator in its turn
-    pub made : (progress : Progress) (rows : List Tuple) → IsPassed progress rows (pass_node node input w before (rows_at flow (suc passed) node.left) (rows_at flow (suc passed) node.right)) →
-        (progress ≡ progress_after flow (suc passed) (slice_index order k)) × (rows ≡ rows_at flow (suc passed) (slice_index order k))
-    made progress rows p = (p.0 ∙ ap (λ (x : Passed). x.progress) same ∙ after (slice_index order k), p.1 ∙ ap (λ (x : Passed). x.rows) same ∙ given (slice_index order k))
+      same : pass_node node input w before left right ≡ pass_window flow (suc passed) (progress_after flow passed) (slice_index order k)
+      same =
+          pass_role-ports node.role node.app_windows input w before left (rows_at flow (suc passed) node.left) right (rows_at flow (suc passed) node.right) here-come
+          ∙ (λ j. pass_node (n j) (i j) (e j) (b j) (rows_at flow (suc passed) (n j).left) (rows_at flow (suc passed) (n j).right)) ∙ sym (turn k h)
 
-    -- what is too large for the code is too large in the pass
-    pub made-large : passed < windows flow → IsLargePassed before (rows_at flow (suc passed) node.left) (right_came node.role (rows_at flow (suc passed) node.right)) (pass_node node input w before (rows_at flow (suc passed) node.left) (rows_at flow (suc passed) node.right)) →
-        IsLargeDataflow flow
-    made-large within large =
-        let P : Node × Progress × Passed → Type 0 = λ x. IsLargePassed x.1 (rows_at flow (suc passed) x.0.left) (right_came x.0.role (rows_at flow (suc passed) x.0.right)) x.2 in
-        record { passed = passed; within = within; operator = slice_index order k; there = o.known k h; is = subst P (λ j. (n j, b j, same j)) large }
+      -- what the code makes of the operator in its turn
+      pub made : (progress : Progress) (rows : List Tuple) → IsPassed progress rows (pass_node node input w before left right) →
+          (progress ≡ progress_after flow (suc passed) (slice_index order k)) × (rows ≡ rows_at flow (suc passed) (slice_index order k))
+      made progress rows p = (p.0 ∙ ap (λ (x : Passed). x.progress) same ∙ after (slice_index order k), p.1 ∙ ap (λ (x : Passed). x.rows) same ∙ given (slice_index order k))
+
+      -- what is too large for the code is too large in the pass
+      pub made-large : passed < windows flow → IsInner node.role → IsLargePassed before left (right_came node.role right) (pass_node node input w before left right) → IsLargeDataflow flow
+      made-large within inner large =
+          let l = large-came node.role inner left (rows_at flow (suc passed) node.left) right (rows_at flow (suc passed) node.right) here-come in
+          let at : IsLargePassed before (rows_at flow (suc passed) node.left) (right_came node.role (rows_at flow (suc passed) node.right)) (pass_node node input w before left right) =
+          subst (λ (x : List Tuple × List Tuple). IsLargePassed before x.0 x.1 (pass_node node input w before left right)) (λ j. (l.0 j, l.1 j)) large in
+          let P : Node × Progress × Passed → Type 0 = λ x. IsLargePassed x.1 (rows_at flow (suc passed) x.0.left) (right_came x.0.role (rows_at flow (suc passed) x.0.right)) x.2 in
+          record { passed = passed; within = within; operator = slice_index order k; there = o.known k h; is = subst P (λ j. (n j, b j, same j)) at }
 
 -- a list that has gone one place further
 pub map-one-more : {X : Type 0} (f : ℕ → X) (order : List ℕ) (k n : ℕ) (made : X) (before after : List X) → k < length order → n ≡ k + 1 → before ≡ map f (take k order) → made ≡ f (slice_index order k) → after ≡ before ++ made ∷ [] → after ≡ map f (take n order)
@@ -56,12 +79,6 @@ here progress order f n k before e p h b =
     let within : k < length order = omega arith in
     let at : before ≡ f (slice_index order k) = b ∙ ap (λ (xs : List Progress). get_or xs k before) p ∙ get_or-map f order k 0 before within in
     (omega arith, at ∙ ap (λ q. f (slice_index order q)) (sym e))
-
--- the rows that were given so far
-pub so-far : (rows : List (List Tuple)) (order : List ℕ) (f : ℕ → List Tuple) (k : ℕ) → rows ≡ map f (take k order) → k ≤ length order → (length rows ≡ k) × (rows ≡ map f (take (length rows) order))
-so-far rows order f k e h =
-    let long : length rows ≡ k = ap length e ∙ length-map (take k order) f ∙ length-take-le k order h in
-    (long, e ∙ ap (λ q. map f (take q order)) (sym long))
 
 pub within : (progress : List Progress) (order : List ℕ) (f : ℕ → Progress) (k : ℕ) → progress ≡ map f order → k < length progress → k ≤ length order
 within progress order f k p h = let long : length progress ≡ length order = ap length p ∙ length-map order f in omega arith

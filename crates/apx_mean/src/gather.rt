@@ -5,7 +5,7 @@ ghost use Rattle.apx_tuple.specs.Tuple.{tuple_key, bag_of};
 ghost use Rattle.apx_rules.specs.Step.{step as step_of};
 ghost use Rattle.apx_pass.specs.Pass.{gather as gathered};
 ghost use Rattle.std.specs.Bool.{OnTrue};
-ghost use Rattle.apx_mean.specs.Views.{carry, IsLargeStep};
+ghost use Rattle.apx_mean.specs.Views.{carry, IsLargeStep, IsPassed};
 ghost use Rattle.apx_pass.specs.Large.{IsLargePassed};
 
 use apx_step::step_in_place;
@@ -20,13 +20,13 @@ pub(crate) struct Passed {
 }
 
 /// The tuples of two bags as one bag.
-fn joined(alloc: Global, before: Bag, now: &Bag) -> Result<Bag, Short>
-    ensures ok { IfOk result (λ bag. bag ≡ bag_of (before ++ now.now)) }
-    ensures large { result ≡ Err Short.Large → IsLarge tuple_key (bag_of (before ++ now.now)) }
+fn joined(alloc: Global, before: Bag, now: Bag) -> Result<Bag, Short>
+    ensures ok { IfOk result (λ bag. bag ≡ bag_of (before ++ now)) }
+    ensures large { result ≡ Err Short.Large → IsLarge tuple_key (bag_of (before ++ now)) }
 {
     let mut parts = Vec::new(alloc);
     parts.push(before)?;
-    parts.push(now.copy(alloc)?)?;
+    parts.push(now)?;
     Bag::merge(alloc, parts)
 }
 
@@ -36,13 +36,15 @@ fn stepped(
     kind: &Kind,
     window: u32,
     state: State,
-    left: &Bag,
-    right: &Bag,
+    left: Bag,
+    right: Bag,
 ) -> Result<Passed, Short>
-    ensures ok { IfOk result (λ passed. (passed.progress ≡ record { state = (step_of kind.now window state left.now right.now).state; left = []; right = [] }) × (passed.rows ≡ (step_of kind.now window state left.now right.now).rows)) }
-    ensures large { result ≡ Err Short.Large → IsLargeStep (step_of kind.now window state left.now right.now) }
+    ensures ok { IfOk result (λ passed.
+        (passed.progress ≡ record { state = (step_of kind.now window state left right).state; left = []; right = [] })
+        × (passed.rows ≡ (step_of kind.now window state left right).rows)) }
+    ensures large { result ≡ Err Short.Large → IsLargeStep (step_of kind.now window state left right) }
 {
-    let (state, rows) = step_in_place(alloc, kind, window, state, left, right)?;
+    let (state, rows) = step_in_place(alloc, kind, window, state, &left, &right)?;
     let progress = Progress {
         state,
         left: Bag::new(alloc),
@@ -70,9 +72,10 @@ fn begins_anew(before: &Progress, left: &Bag, right: &Bag) -> bool
 }
 
 /// What an operator makes of a window at which it doesn't step.
-fn carried(alloc: Global, before: Progress, left: &Bag, right: &Bag) -> Result<Passed, Short>
-    ensures ok { IfOk result (λ passed. (passed.progress ≡ carry before left.now right.now) × (passed.rows ≡ [])) }
-    ensures large { result ≡ Err Short.Large → IsLarge tuple_key (bag_of (before.left ++ left.now)) ⊎ IsLarge tuple_key (bag_of (before.right ++ right.now)) }
+fn carried(alloc: Global, before: Progress, left: Bag, right: Bag) -> Result<Passed, Short>
+    ensures ok { IfOk result (λ passed. (passed.progress ≡ carry before left right) × (passed.rows ≡ [])) }
+    ensures large { result ≡ Err Short.Large →
+        IsLarge tuple_key (bag_of (before.left ++ left)) ⊎ IsLarge tuple_key (bag_of (before.right ++ right)) }
 {
     let progress = Progress {
         state: before.state,
@@ -94,27 +97,22 @@ pub(crate) fn gather(
     app_windows: u32,
     window: u32,
     before: Progress,
-    left: &Bag,
-    right: &Bag,
+    left: Bag,
+    right: Bag,
 ) -> Result<Passed, Short>
     requires { 0 < app_windows }
-    ensures ok { IfOk result (λ passed. (passed.progress ≡ (gathered kind.now app_windows window before left.now right.now).progress) × (passed.rows ≡ (gathered kind.now app_windows window before left.now right.now).rows)) }
-    ensures large { result ≡ Err Short.Large → IsLargePassed before left.now right.now (gathered kind.now app_windows window before left.now right.now) }
+    ensures ok { IfOk result (λ passed.
+        IsPassed passed.progress passed.rows (gathered kind.now app_windows window before left right)) }
+    ensures large { result ≡ Err Short.Large →
+        IsLargePassed before left right (gathered kind.now app_windows window before left right) }
 {
     if window % app_windows != 0 {
         return carried(alloc, before, left, right);
     }
-    if begins_anew(&before, left, right) {
+    if begins_anew(&before, &left, &right) {
         return stepped(alloc, kind, window / app_windows, before.state, left, right);
     }
     let left = joined(alloc, before.left, left)?;
     let right = joined(alloc, before.right, right)?;
-    stepped(
-        alloc,
-        kind,
-        window / app_windows,
-        before.state,
-        &left,
-        &right,
-    )
+    stepped(alloc, kind, window / app_windows, before.state, left, right)
 }

@@ -5,6 +5,7 @@
 
 pub use pass::OnePass;
 
+mod came;
 mod gather;
 mod operator;
 mod pass;

@@ -1,13 +1,15 @@
 //! One pass over a graph, a window at a time.
-ghost use Rattle.std.specs.Prelude.{◌≡◌, ◌<◌, ◌≤◌, ◌+◌, ℕ, suc, length, map, slice_index, IfOk};
+ghost use Rattle.std.specs.Prelude.{◌≡◌, ◌<◌, ◌≤◌, ◌+◌, ℕ, suc, [], length, map, slice_index, IfOk};
 ghost use Rattle.std.specs.Option.{option_copied};
 ghost use Rattle.apx_pass.specs.Order.{IsBefore, IsOrder};
 ghost use Rattle.apx_pass.specs.Valid.{IsValid};
 ghost use Rattle.apx_pass.specs.Graph.{is_input, is_sink};
 ghost use Rattle.apx_pass.specs.Pass.{at_start, progress_after, rows_at, inputs_before, input_at, windows, sink_of};
+ghost use Rattle.apx_mean.specs.Kept.{AreKept};
 ghost use Rattle.apx_mean.specs.Passing.{dataflow_of};
 ghost use Rattle.apx_pass.specs.Large.{IsLargeDataflow};
 
+use crate::came::came;
 use crate::operator::pass_operator;
 use apx_dag::{Dag, Node, Role};
 use apx_input::Windows;
@@ -37,7 +39,9 @@ impl<'a> Model for OnePass<'a> {
 
     ghost view = { λ p. record { flow = record { nodes = p.dag.now; inputs = p.inputs.now }; passed = p.passed } };
 
-    ghost invariant = { λ p. IsPassing (record { flow = record { nodes = p.dag.now; inputs = p.inputs.now }; passed = p.passed }) p.order.now p.sink p.progress.items };
+    ghost invariant = { λ p.
+        IsPassing (record { flow = record { nodes = p.dag.now; inputs = p.inputs.now }; passed = p.passed })
+        p.order.now p.sink p.progress.items };
 }
 
 impl<'a> OnePass<'a> {
@@ -55,7 +59,7 @@ impl<'a> OnePass<'a> {
         ensures { IfOk result (λ pass. pass ≡ record { flow = dataflow_of dag.now inputs.now; passed = 0 }) }
     {
         let order = dag.order();
-        let sink = place_of(order, sink_number(dag));
+        let sink = place_of(order, order.len(), sink_number(dag));
         let progress = starts(alloc, order)?;
         Ok(OnePass {
             dag,
@@ -73,7 +77,9 @@ impl<'a> OnePass<'a> {
     pub fn next(self, alloc: Global) -> Result<(OnePass<'a>, Bag), Short>
         requires passed { self.passed < 20000 }
         requires within { self.passed < windows self.flow }
-        ensures ok { IfOk result (λ r. (r.0 ≡ record { flow = self.entry.flow; passed = self.entry.passed + 1 }) × (r.1 ≡ rows_at self.entry.flow (suc self.entry.passed) (sink_of self.entry.flow.nodes))) }
+        ensures ok { IfOk result (λ r.
+            (r.0 ≡ record { flow = self.entry.flow; passed = self.entry.passed + 1 })
+            × (r.1 ≡ rows_at self.entry.flow (suc self.entry.passed) (sink_of self.entry.flow.nodes))) }
         ensures large { result ≡ Err Short.Large → IsLargeDataflow self.entry.flow }
     {
         let OnePass {
@@ -84,7 +90,7 @@ impl<'a> OnePass<'a> {
             progress,
             passed,
         } = self;
-        let (progress, mut rows) = pass_all(alloc, dag, inputs, order, passed, progress)?;
+        let (progress, mut rows) = pass_all(alloc, dag, inputs, order, sink, passed, progress)?;
         let rows = rows.swap_remove(sink);
         let pass = OnePass {
             dag,
@@ -109,13 +115,14 @@ fn starts(alloc: Global, order: &[u16]) -> Result<Vec<Progress>, AllocError>
     Ok(progress)
 }
 
-/// Where the operator stands in the order.
-fn place_of(order: &[u16], operator: u16) -> usize
-    requires { IsBefore order.now (length order.now) operator }
-    ensures within { result < length order.now }
+/// Where the operator stands among the first `count` of the order.
+pub(crate) fn place_of(order: &[u16], count: usize, operator: u16) -> usize
+    requires count { count ≤ length order.now }
+    requires there { IsBefore order.now count operator }
+    ensures within { result < count }
     ensures named { slice_index order.now result ≡ operator }
 {
-    for place in 0..order.len() {
+    for place in 0..count {
         if order[place] == operator {
             return place;
         }
@@ -146,12 +153,14 @@ fn input_of<'a>(dag: &Dag, inputs: &'a [Windows], operator: u16) -> Option<&'a W
     inputs.get(inputs_before(dag, operator))
 }
 
-/// What each operator carries on from the window after `passed`, and what it gives in it, in the order.
+/// What each operator carries on from the window after `passed`, in the order, and the rows that are given in it: those of
+/// the sink stand at its place.
 fn pass_all(
     alloc: Global,
     dag: &Dag,
     inputs: &[Windows],
     order: &[u16],
+    sink: usize,
     passed: u32,
     progress: Vec<Progress>,
 ) -> Result<(Vec<Progress>, Vec<Bag>), Short>
@@ -161,7 +170,8 @@ fn pass_all(
     requires valid { IsValid dag.now }
     requires carried { progress.items ≡ map (progress_after (dataflow_of dag.now inputs.now) passed) order.now }
     ensures progress { IfOk result (λ r. r.0.items ≡ map (progress_after (dataflow_of dag.now inputs.now) (suc passed)) order.now) }
-    ensures rows { IfOk result (λ r. r.1.items ≡ map (rows_at (dataflow_of dag.now inputs.now) (suc passed)) order.now) }
+    ensures long { IfOk result (λ r. length r.1.items ≡ length order.now) }
+    ensures rows { IfOk result (λ r. AreKept (rows_at (dataflow_of dag.now inputs.now) (suc passed)) order.now sink [] r.1.items) }
     ensures large { result ≡ Err Short.Large → IsLargeDataflow (dataflow_of dag.now inputs.now) }
 {
     let mut carried = Vec::new(alloc);
@@ -170,7 +180,8 @@ fn pass_all(
         let operator = order[rows.len()];
         let node = dag.node(operator);
         let input = input_of(dag, inputs, operator);
-        let made = pass_operator(alloc, node, input, order, &rows, passed + 1, before)?;
+        let (left, right) = came(alloc, dag, order, sink, &mut rows)?;
+        let made = pass_operator(alloc, node, input, passed + 1, before, left, right)?;
         carried.push(made.progress)?;
         rows.push(made.rows)?;
     }

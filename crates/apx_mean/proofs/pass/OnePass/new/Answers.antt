@@ -1,10 +1,13 @@
-use Rattle.std.proofs.Common.{◌∙◌}
+use Rattle.std.proofs.Common.{◌∙◌, arith}
 use Rattle.apx_pass.specs.Pass.{sink_of}
 use Rattle.apx_mean.proofs.Turn.{starts-at}
 use Rattle.apx_mean.proofs.pass.OnePass.new.Goals as goal
 
 pub place_of-sink-requires : goal.place_of-sink-requires
-place_of-sink-requires c = rw c.sink_number.ensures.number (c.order-order.ensures.goes.whole (sink_of c.args.dag.now) c.sink_number.ensures.valid.sink)
+place_of-sink-requires c = record {
+  count = omega arith;
+  there = rw c.sink_number.ensures.number (c.order-order.ensures.goes.whole (sink_of c.args.dag.now) c.sink_number.ensures.valid.sink);
+}
 
 pub invariant_of-result : goal.invariant_of-result
 invariant_of-result c = record {
