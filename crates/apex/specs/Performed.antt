@@ -16,7 +16,8 @@ abbrev pub untold_change : (old new : ℕ) → OutputChange
 untold_change old new = output_change false (λ _. []) (λ faults. faults) old new
 
 -- how it ended, from a store that held nothing, whatever faults the output had
-pub record HasPerformed (words : List (List ℕ)) (answers : List Answer) (folder : Type 0) (keeper : MemoryKeeper) (end : Result ⊤ Stop) : Type 0 where
+pub record HasPerformed
+    (words : List (List ℕ)) (answers : List Answer) (folder : Type 0) (keeper : MemoryKeeper) (end : Result ⊤ Stop) : Type 0 where
   -- the store before
   pub fresh : MemoryKeeper
   -- it held nothing

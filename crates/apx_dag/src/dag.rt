@@ -28,6 +28,13 @@ use std::marker::Model;
 
 /// A valid graph: at most 16 operators with names of their own, in the order
 /// of the file, and an order in which they can step.
+///
+/// ```
+/// let dag = Dag::of(alloc, read_app(alloc, bytes)?)?;
+/// for operator in dag.order() {
+///     let node = dag.node(*operator);
+/// }
+/// ```
 #[derive(Drop)]
 pub struct Dag {
     /// The operators under their names, in the order of the file.

@@ -13,6 +13,7 @@ use std::marker::Model;
 /// An operator with its class and its role; contracts see its text.
 #[derive(Drop)]
 pub(crate) struct KnownOperator {
+    /// What the application says of it.
     text: OperatorText,
     /// None where no class has the name.
     class: Option<Class>,
@@ -93,7 +94,9 @@ fn operator_role(
 /// An application: its operators, with what they are, and its streams, in the order of the file.
 #[derive(Drop)]
 pub(crate) struct KnownApp {
+    /// Its operators.
     pub(crate) operators: Vec<KnownOperator>,
+    /// Its streams.
     pub(crate) streams: Vec<StreamText>,
 }
 

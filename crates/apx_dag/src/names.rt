@@ -12,8 +12,10 @@ use std::alloc::{AllocError, Global};
 
 /// What has a name in an application.
 pub(crate) trait Named {
+    /// The bytes of its name.
     ghost named: { Self → List ℕ };
 
+    /// Its name.
     fn name(&self) -> &Name
         ensures { result.now ≡ named self.now };
 }

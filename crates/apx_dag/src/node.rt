@@ -7,7 +7,9 @@ use std::marker::Model;
 /// An operator of a graph, by its number in the file from 0.
 #[derive(Debug, Drop)]
 pub struct Node {
+    /// Its name.
     pub name: Name,
+    /// What it does, with what its properties say.
     pub role: Role,
     /// How many partitions there are at the start: 1 to 8.
     pub partitions: u8,

@@ -13,6 +13,11 @@ const PIECE: usize = 32_768;
 /// The files of the system by their names, as relative to the folder that the program runs in. It
 /// tells no content. `Absent` comes where the system finds no such file; that it says so rightly is
 /// taken from the system.
+///
+/// ```
+/// let mut files = RealFolder::new(&rt);
+/// let bytes = files.read(rt.alloc(), "app.json", 1_048_576)?;
+/// ```
 #[derive(Drop)]
 pub struct RealFolder<'a, R> {
     /// The files of the system.

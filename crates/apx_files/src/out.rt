@@ -12,6 +12,12 @@ use std::io::Write;
 ///
 /// Bytes are held back as long as there is room for them, and then written together. Once a write has
 /// failed nothing more is written: what is held back is dropped, and each later write fails.
+///
+/// ```
+/// let mut out = RealOut::new(rt.alloc(), rt.stdout(), 65_536);
+/// out.write(b"ok\n")?;
+/// out.finish()?;
+/// ```
 #[derive(Drop)]
 pub struct RealOut<W> {
     /// Where the bytes go.

@@ -103,6 +103,12 @@ impl<F: Read + Write + Seek> Spool for FileSpool<F> {
 ///
 /// The name of a spool's file is the number of the spool; the name is gone once the file is open, so that nothing is
 /// left behind where the process stops.
+///
+/// ```
+/// let mut spools = FileSpools::new(&rt, alloc, String::from_str(alloc, "store")?);
+/// let mut spool = spools.fresh()?;
+/// spool.put(1, b"a block")?;
+/// ```
 #[derive(Drop)]
 pub struct FileSpools<'a, R> {
     /// The files of the system.

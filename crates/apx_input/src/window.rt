@@ -25,6 +25,7 @@ use std::marker::Model;
 /// ```
 #[derive(Drop)]
 pub struct Windows {
+    /// How its lines are read.
     pub(crate) kind: InputKind,
     /// How many lines make a window: 1 to 1,000,000.
     pub(crate) per_window: u32,
