@@ -1,24 +1,82 @@
--- The first k of the parts' first k are the first k of the whole, and cuts put together are the whole.
-use Rattle.std.proofs.Common.{◌≡◌, ℕ, ℤ, ◌-◌, zero, suc, min, Bool, List, [], ◌∷◌, ◌++◌, take, refl, sym, ap, ◌∙◌, arith}
+-- The first k of the partitions' first k are the first k of the whole.
+use Rattle.std.proofs.Common.{◌≡◌, ℕ, ℤ, ◌+◌, ◌-◌, zero, suc, min, Bool, true, false, cond, List, [], ◌∷◌, ◌++◌, map, take, refl, sym, ap, ◌∙◌, arith}
 use Rattle.std.specs.declared.cmp.Ordering.{Ordering}
 use Rattle.std.specs.declared.cmp.Ordering.TheVariants.{Less, Equal, Greater}
-use Rattle.std.specs.Ordering.{is_eq, is_lt, is_gt, int_cmp, ordering_then}
-use Rattle.std.specs.List.{flat_map, AllByRecursion}
-use Rattle.std.specs.List.Sorted.{IsStrictlySortedBy}
-use Rattle.std.specs.Map.{keys_of}
+use Rattle.std.specs.Ordering.{is_eq, is_lt, is_gt, int_cmp, ordering_then, ordering_reverse}
+use Rattle.std.specs.List.{flat_map, range_with_len}
 use Rattle.std.specs.Cmp.{then_total, on_total, back_total, int_cmp_total, tied_itself}
 use Rattle.std.specs.Cmp.Lexicographic.{nat_list_cmp_total}
 use Rattle.std.proofs.lemmas.Cmp.{int_ranked}
 use Rattle.apx_order.specs.Sorted.{IsExact, sorted, IsAscending, IsFloor}
-use Rattle.apx_order.proofs.Sorting.{sorted-ascends, same-by-times}
+use Rattle.apx_order.proofs.Sorting.{sorted-ascends, same-by-times, times-less, floor-down}
 use Rattle.apx_tuple.specs.declared.kind.Kind.TheVariants.{Top}
 use Rattle.apx_tuple.specs.declared.tuple.Tuple.{Tuple}
 use Rattle.apx_tuple.specs.State.{Pair}
-use Rattle.apx_tuple.specs.Tuple.{key_order, tuple_key, tuple_order, bag_of}
+use Rattle.apx_tuple.specs.Tuple.{key_order, tuple_order, bag_of}
 use Rattle.apx_tuple.proofs.Orders.{key_order-tight, tuple_order-exact, both-equal}
+use Rattle.apx_codec.specs.KeyNumber.{owner_of}
+use Rattle.apx_rules.specs.Parts.{cut_bag, of_parts, unify, pair_order}
 use Rattle.apx_rules.specs.Step.{step, top_of, rank_order}
-use Rattle.apx_parts.specs.Parts.{cut_bag, cut_state, of_parts, unify, pair_order, merge_states, PartsUnify, CutsMerge, SplitsAreCuts}
-use Rattle.apx_parts.proofs.Parts.{count, times-count, count-append, count-sorted, count-all-cuts, below, here, take-here, take-below, keyed-rows}
+use Rattle.apx_shares.specs.Laws.{PartsUnify}
+use Rattle.apx_shares.proofs.Cuts.{keys-are-owned}
+use Rattle.apx_shares.proofs.Steps.{keyed-rows}
+use Rattle.apx_shares.proofs.Sums.{count, times-count, count-append, count-sorted, count-all-cuts}
+
+abbrev number : Bool → ℕ
+number b = cond b 1 0
+
+-- ---- the first k of an ascending list
+
+module _ {X : Type 0} {cmp : X → X → Ordering} (o : IsExact cmp) where
+  abbrev pub below : X → List X → ℕ
+  below t xs = count (λ y. is_lt (cmp y t)) xs
+
+  abbrev pub here : X → List X → ℕ
+  here t xs = count (λ y. is_eq (cmp t y)) xs
+
+  not_below : (r s : Ordering) → is_gt r ≡ false → s ≡ ordering_reverse r → is_lt s ≡ false
+  not_below Less s h e = ap is_lt e
+  not_below Equal s h e = ap is_lt e
+  not_below Greater s h e = cc
+
+  floor-below : (t : X) (xs : List X) → IsFloor cmp t xs → below t xs ≡ 0
+  floor-below t [] f = refl
+  floor-below t (x ∷ xs) f =
+      let no : is_lt (cmp x t) ≡ false = not_below (cmp t x) (cmp x t) f.0 (o.total.antisymm x t) in
+      omega (arith, ap number no, floor-below t xs f.1)
+
+  above-here : (t x : X) (xs : List X) → cmp t x ≡ Less → IsFloor cmp x xs → here t (x ∷ xs) ≡ 0
+  above-here t x xs l f = sym (times-count cmp t (x ∷ xs)) ∙ times-less o t x xs l f
+
+  pub take-here : (t : X) (k : ℕ) (xs : List X) → IsAscending cmp xs → here t (take k xs) ≡ min (here t xs) (k - below t xs)
+  take-here t zero xs a = omega arith
+  take-here t (suc k) [] a = omega arith
+  take-here t (suc k) (x ∷ xs) a = by (cmp x t) refl (take-here t k xs a.1)
+    where
+      by : (r : Ordering) → cmp x t ≡ r → here t (take k xs) ≡ min (here t xs) (k - below t xs) →
+          cond (is_eq (cmp t x)) 1 0 + here t (take k xs) ≡ min (cond (is_eq (cmp t x)) 1 0 + here t xs) (suc k - (cond (is_lt r) 1 0 + below t xs))
+      by Less e rest = let no : is_eq (cmp t x) ≡ false = ap is_eq (o.total.antisymm t x ∙ ap ordering_reverse e) in omega (arith, rest, ap number no)
+      by Equal e rest =
+          let yes : is_eq (cmp t x) ≡ true = ap is_eq (o.total.antisymm t x ∙ ap ordering_reverse e) in
+          let none : below t xs ≡ 0 = ap (λ u. below u xs) (sym (o.tight x t e)) ∙ floor-below x xs a.0 in
+          omega (arith, rest, ap number yes, none)
+      by Greater e rest =
+          let less : cmp t x ≡ Less = o.total.antisymm t x ∙ ap ordering_reverse e in
+          let none : here t (x ∷ xs) ≡ 0 = above-here t x xs less a.0 in
+          omega (arith, rest, none)
+
+  pub take-below : (t : X) (k : ℕ) (xs : List X) → IsAscending cmp xs → below t (take k xs) ≡ min k (below t xs)
+  take-below t zero xs a = omega arith
+  take-below t (suc k) [] a = omega arith
+  take-below t (suc k) (x ∷ xs) a = by (cmp x t) refl (take-below t k xs a.1)
+    where
+      least : is_gt (cmp t x) ≡ false → below t xs ≡ 0
+      least g = floor-below t xs (floor-down o t x xs g a.0)
+
+      by : (r : Ordering) → cmp x t ≡ r → below t (take k xs) ≡ min k (below t xs) → cond (is_lt r) 1 0 + below t (take k xs) ≡ min (suc k) (cond (is_lt r) 1 0 + below t xs)
+      by Less e rest = omega (arith, rest)
+      by Equal e rest = let none = least (ap is_gt (o.total.antisymm t x ∙ ap ordering_reverse e)) in omega (arith, rest, none)
+      by Greater e rest = let none = least (ap is_gt (o.total.antisymm t x ∙ ap ordering_reverse e)) in omega (arith, rest, none)
 
 -- ---- the orders by rank and of pairs
 
@@ -45,7 +103,7 @@ pair_order-tight p q e =
     let values : p.1 ≡ q.1 = same_int p.1 q.1 both.1 in
     λ i. (keys i, values i)
 
-pair_order-exact : IsExact pair_order
+pub pair_order-exact : IsExact pair_order
 pair_order-exact = record { total = then_total (on_total (λ (p : Pair). p.0) nat_list_cmp_total) (on_total (λ (p : Pair). p.1) int_cmp_total); tight = pair_order-tight }
 
 -- orders that call equal only what is the same agree on it
@@ -112,40 +170,21 @@ top-right k xs ys = top-same k (xs ++ top_of k ys) (xs ++ ys) (λ t.
     let d = count-append (λ y. is_lt (rank_order y t)) xs ys in
     omega (arith, top-stands t k (xs ++ top_of k ys), top-stands t k (xs ++ ys), top-stands t k ys, top-before t k ys, a, b, c, d))
 
-top-parts : (k n : ℕ) (f : ℕ → List Tuple) → top_of k (flat_map (λ part. part) (of_parts n (λ i. top_of k (f i)))) ≡ top_of k (flat_map (λ part. part) (of_parts n f))
-top-parts k zero f = refl
-top-parts k (suc n) f =
-    top-left k (f n) (flat_map (λ part. part) (of_parts n (λ i. top_of k (f i))))
-    ∙ sym (top-right k (f n) (flat_map (λ part. part) (of_parts n (λ i. top_of k (f i)))))
-    ∙ ap (λ l. top_of k (f n ++ l)) (top-parts k n f)
-    ∙ top-right k (f n) (flat_map (λ part. part) (of_parts n f))
+top-from : (k a n : ℕ) (f : ℕ → List Tuple) →
+    top_of k (flat_map (λ part. part) (map (λ i. top_of k (f i)) (range_with_len a n))) ≡ top_of k (flat_map (λ part. part) (map f (range_with_len a n)))
+top-from k a zero f = refl
+top-from k a (suc n) f =
+    top-left k (f a) (flat_map (λ part. part) (map (λ i. top_of k (f i)) (range_with_len (a + 1) n)))
+    ∙ sym (top-right k (f a) (flat_map (λ part. part) (map (λ i. top_of k (f i)) (range_with_len (a + 1) n))))
+    ∙ ap (λ l. top_of k (f a ++ l)) (top-from k (a + 1) n f)
+    ∙ top-right k (f a) (flat_map (λ part. part) (map f (range_with_len (a + 1) n)))
 
--- ---- the laws
-
+-- the rows of the partitions, unified, are the rows of the whole
 pub parts-unify : PartsUnify
 unfolding step unify
-parts-unify n own o (Top k) window state left right =
-    top-counts k (bag_of (flat_map (λ part. part) (of_parts n (λ i. top_of k (cut_bag own i left))))) (flat_map (λ part. part) (of_parts n (λ i. top_of k (cut_bag own i left)))) (λ p. count-sorted tuple_order p (flat_map (λ part. part) (of_parts n (λ i. top_of k (cut_bag own i left)))))
-    ∙ top-parts k n (λ i. cut_bag own i left)
-    ∙ top-counts k (flat_map (λ part. part) (of_parts n (λ i. cut_bag own i left))) left (λ p. count-all-cuts n own o tuple_key p left)
-parts-unify n own o kind window state left right = keyed-rows n own o kind window state left right
-
--- pairs whose keys ascend, each once, ascend
-pairs-floor : (p : Pair) (ps : List Pair) → AllByRecursion (λ k. key_order p.0 k ≡ Less) (keys_of ps) → IsFloor pair_order p ps
-pairs-floor p [] a = tt
-pairs-floor p (q ∷ ps) a = (ap (λ r. is_gt (ordering_then r (int_cmp p.1 q.1))) a.0, pairs-floor p ps a.1)
-
-pairs-ascend : (ps : List Pair) → IsStrictlySortedBy key_order (keys_of ps) → IsAscending pair_order ps
-unfolding IsStrictlySortedBy
-pairs-ascend [] a = tt
-pairs-ascend (p ∷ ps) a = (pairs-floor p ps a.0, pairs-ascend ps a.1)
-
-pub cuts-merge : CutsMerge
-cuts-merge n own o state a =
-    same-by-times pair_order-exact (merge_states (of_parts n (λ i. cut_state own i state))) state (sorted-ascends pair_order-exact (flat_map (λ part. part) (of_parts n (λ i. cut_state own i state)))) (pairs-ascend state a)
-    (λ p. times-count pair_order p (merge_states (of_parts n (λ i. cut_state own i state)))
-    ∙ count-sorted pair_order (λ q. is_eq (pair_order p q)) (flat_map (λ part. part) (of_parts n (λ i. cut_state own i state)))
-    ∙ count-all-cuts n own o (λ (q : Pair). q.0) (λ q. is_eq (pair_order p q)) state ∙ sym (times-count pair_order p state))
-
-pub splits-are-cuts : SplitsAreCuts
-splits-are-cuts n own other o i state a = ap (cut_state other i) (cuts-merge n own o state a)
+parts-unify n h (Top k) window state left right =
+    let cuts = flat_map (λ part. part) (of_parts n (λ i. top_of k (cut_bag n i left))) in
+    top-counts k (bag_of cuts) cuts (λ p. count-sorted tuple_order p cuts)
+    ∙ top-from k 0 n (λ i. cut_bag n i left)
+    ∙ top-counts k (flat_map (λ part. part) (of_parts n (λ i. cut_bag n i left))) left (λ p. count-all-cuts n (owner_of n) (keys-are-owned n h) (λ (t : Tuple). t.key) p left)
+parts-unify n h kind window state left right = keyed-rows n (owner_of n) (keys-are-owned n h) kind window state left right

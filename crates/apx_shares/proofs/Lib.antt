@@ -1,0 +1,9 @@
+pub mod Cuts
+pub mod Flows
+pub mod Gathering
+pub mod Merging
+pub mod Ordered
+pub mod Steps
+pub mod Sums
+pub mod Tops
+pub mod Worked
