@@ -1,5 +1,5 @@
 -- Flags and operators where a run begins.
-use Rattle.std.proofs.Common.{◌≡◌, ℕ, zero, suc, Bool, true, List, [], ◌∷◌, map, replicate, length, refl, ap}
+use Rattle.std.proofs.Common.{◌≡◌, true, List, [], ◌∷◌, map, replicate, length, refl, ap}
 use Rattle.apx_history.specs.declared.Line.{Line}
 
 pub all_set : (ls : List Line) → replicate (length ls) true ≡ map (λ (l : Line). true) ls

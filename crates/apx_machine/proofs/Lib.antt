@@ -8,3 +8,5 @@ pub mod Starting
 pub mod Keeping
 pub mod Few
 pub mod Rows
+pub mod Seeking
+pub mod Chosen

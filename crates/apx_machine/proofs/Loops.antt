@@ -1,8 +1,6 @@
 -- The steps of loops over numbers below n.
-use Rattle.std.proofs.Common.{◌≡◌, ℕ, zero, suc, ◌+◌, ◌<◌, ◌≤◌, ◌⊎◌, inl, inr, min, max, Bool, true, false, cond, not, ◌&&◌, ◌||◌, ◌==◌, List, [], ◌∷◌, get_or, length, drop, refl, sym, ap, subst, ◌∙◌, arith}
-use Rattle.apx_history.specs.Plan.{has}
+use Rattle.std.proofs.Common.{◌≡◌, ℕ, zero, suc, ◌+◌, ◌<◌, inl, inr, min, Bool, true, false, ◌&&◌, refl, sym, ap, subst, ◌∙◌, arith}
 use Rattle.apx_history.specs.State.{all_below, lowest}
-use Rattle.apx_history.specs.Enabled.{greatest}
 use Rattle.apx_history.proofs.Tests.{at_or_below}
 
 pub all_none : (p : ℕ → Bool) → all_below 0 p ≡ true

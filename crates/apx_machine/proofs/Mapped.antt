@@ -1,5 +1,5 @@
 -- Lists whose members were changed one after the other.
-use Rattle.std.proofs.Common.{◌≡◌, ℕ, zero, suc, ◌+◌, ◌<◌, ◌≤◌, List, [], ◌∷◌, length, get_or, set, refl, sym, ap, subst, ◌∙◌, arith}
+use Rattle.std.proofs.Common.{◌≡◌, ℕ, zero, suc, ◌+◌, ◌<◌, ◌≤◌, List, [], ◌∷◌, length, get_or, set, refl, ap, ◌∙◌, arith}
 use Rattle.apx_history.specs.State.{map_from}
 
 mapped_from : {X : Type 0} (f : ℕ → X → X) (n : ℕ) (d : X) (xs ys : List X) → length ys ≡ length xs →

@@ -1,9 +1,9 @@
 -- What the least recovery checkpoint of the readers of an operator tells.
-use Rattle.std.proofs.Common.{◌≡◌, ℕ, ◌<◌, ◌≤◌, ◌⊎◌, inl, inr, Bool, true, false, cond, ◌&&◌, ◌==◌, nat_le, is_none, length, refl, sym, ap, ◌∙◌, arith}
+use Rattle.std.proofs.Common.{◌≡◌, ℕ, ◌≤◌, ◌⊎◌, inl, inr, Bool, true, false, cond, ◌&&◌, ◌==◌, nat_le, is_none, length, refl, sym, ap, ◌∙◌, arith}
 use Rattle.std.proofs.Math.ListN.{get_or-eq_default}
 use Rattle.std.proofs.lemmas.Bool.{leb-true, le-leb}
 use Rattle.apx_history.specs.Plan.{Plan, reads}
-use Rattle.apx_history.specs.State.{Oper, State, no_oper, slot, IsPart, all_below}
+use Rattle.apx_history.specs.State.{Oper, State, no_oper, slot, all_below}
 use Rattle.apx_history.specs.Enabled.{readers_rc, readers_reach, rests_at}
 use Rattle.apx_history.proofs.Tests.{test, not_true, least-le, least-by}
 use Rattle.apx_history.proofs.Conditions.{readers_at, readers_by}

@@ -2,7 +2,7 @@
 use Rattle.std.specs.Prelude.{ℕ, min, cond, Bool, not, ◌&&◌, ◌||◌, ◌==◌, nat_le, is_none}
 use Rattle.apx_history.specs.Plan.{Plan, line, reads, kills, splits_op, last_checkpoint}
 use Rattle.apx_history.specs.State.{State, slot, is_left}
-use Rattle.apx_history.specs.Enabled.{due, in_tree}
+use Rattle.apx_history.specs.Enabled.{in_tree}
 use Rattle.apx_machine.specs.declared.conditions.Ask.{Ask}
 use Rattle.apx_machine.specs.declared.conditions.Ask.TheVariants.{Source, Outside, Rests, Over}
 

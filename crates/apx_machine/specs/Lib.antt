@@ -5,3 +5,4 @@ pub mod Stays
 pub mod Begun
 pub mod Small
 pub mod Listed
+pub mod Picked

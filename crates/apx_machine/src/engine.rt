@@ -25,12 +25,19 @@ fn none_left(flags: &[bool]) -> bool
 /// A plan, and a state of it.
 #[derive(Debug, Drop)]
 pub(crate) struct Engine {
+    /// The plan.
     pub(crate) plan: Plan,
+    /// The operators, by their numbers.
     pub(crate) ops: Vec<Group>,
+    /// What every partition has behind it for good.
     pub(crate) committed: u32,
+    /// The last window in the store.
     pub(crate) stored: u32,
+    /// For each line of the script whether it is left.
     pub(crate) left: Vec<bool>,
+    /// Whether the run has ended.
     pub(crate) ended: bool,
+    /// The status that the run stopped with, if any.
     pub(crate) fault: Option<u8>,
 }
 

@@ -14,7 +14,9 @@ use std::marker::Model;
 /// An operator of a machine: the boundary of its epoch, and its partitions.
 #[derive(Debug, Drop)]
 pub(crate) struct Group {
+    /// The boundary of its epoch.
     boundary: u32,
+    /// Its partitions, by their numbers.
     parts: Vec<Partition>,
 }
 

@@ -9,10 +9,13 @@ mod changes;
 mod conditions;
 mod engine;
 mod group;
+mod journal;
 mod listing;
 mod machine;
 mod partition;
+mod picking;
 mod plan;
 
+pub use journal::Journal;
 pub use machine::Machine;
 pub use plan::{Operator, Plan};

@@ -37,7 +37,7 @@ pub(crate) enum Met {
 }
 
 /// The event of a row that a line may have next.
-fn event_of(row: Met, line: u32) -> Event
+pub(crate) fn event_of(row: Met, line: u32) -> Event
     ensures { result ≡ of_line row line }
 {
     match row {
@@ -57,7 +57,7 @@ impl Engine {
     }
 
     /// What could come next of a row for a partition.
-    fn candidate(&self, row: Row, op: usize, part: usize) -> Event
+    pub(crate) fn candidate(&self, row: Row, op: usize, part: usize) -> Event
         requires small { IsSmall self.now.plan }
         requires kept { Kept self.now.plan self.now.state }
         requires there { IsPart self.now.state op part }

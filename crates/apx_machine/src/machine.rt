@@ -1,12 +1,14 @@
 //! The machine of a run.
-ghost use Rattle.std.specs.Prelude.{◌≡◌, ℕ, ◌≤◌, ◌<◌, Bool, true, length, IfOk, OnOk, OnErr};
+ghost use Rattle.std.specs.Prelude.{◌≡◌, ℕ, ◌≤◌, ◌<◌, Bool, true, length, get_or, IfOk, IfSome, OnOk, OnErr};
 ghost use Rattle.apx_history.specs.State.{oper, parts, slot, IsPart, running};
 ghost use Rattle.apx_history.specs.Enabled.{can};
 ghost use Rattle.apx_history.specs.Effects.{next};
 ghost use Rattle.apx_history.specs.Journals.{beginning};
 ghost use Rattle.apx_history.specs.Choices.{choices};
 ghost use Rattle.apx_history.specs.Kept.{IsPlan, IsStart, Kept};
+ghost use Rattle.apx_history.specs.declared.Event.TheVariants.{End};
 ghost use Rattle.apx_machine.specs.Small.{IsSmall};
+ghost use Rattle.apx_machine.specs.Picked.{may_do, first_for};
 
 use crate::engine::Engine;
 use crate::plan::Plan;
@@ -25,6 +27,7 @@ use std::marker::Model;
 /// ```
 #[derive(Debug, Drop)]
 pub struct Machine {
+    /// The plan and the state.
     engine: Engine,
 }
 
@@ -77,6 +80,33 @@ impl Machine {
         ensures { IfOk result (λ _. into.new.items ≡ choices self.now.plan self.now.state) }
     {
         self.engine.choices(into)
+    }
+
+    /// How many events there are to choose from. While the run goes on there is one.
+    pub fn count(&self) -> u32
+        ensures count { result ≡ length (choices self.now.plan self.now.state) }
+        ensures some { running self.now.state ≡ true → 0 < result }
+    {
+        self.engine.count()
+    }
+
+    /// The event to choose at a place in their order, the first being at 0.
+    pub fn pick(&self, place: u32) -> Event
+        requires { place < length (choices self.now.plan self.now.state) }
+        ensures event { result ≡ get_or (choices self.now.plan self.now.state) place End }
+        ensures next { can self.now.plan self.now.state result ≡ true }
+    {
+        self.engine.pick(place)
+    }
+
+    /// The first event to choose that a worker may do: it is no Write, Finish or Kill of a partition that is open for
+    /// another worker, and where the worker claims a partition, it is a Write, Finish or Kill of that one.
+    pub fn first_for(&self, worker: u8, claim: Option<(u16, u8)>) -> Option<Event>
+        ensures event { result ≡ first_for self.now.plan self.now.state worker claim }
+        ensures next { IfSome result (λ e. can self.now.plan self.now.state e ≡ true) }
+        ensures may { IfSome result (λ e. may_do self.now.plan self.now.state worker claim e ≡ true) }
+    {
+        self.engine.first_for(worker, claim)
     }
 
     /// What an event changes. Save and Repartition may want memory; then nothing is changed.

@@ -25,10 +25,15 @@ fn stands_in(windows: &[u32], window: u32) -> bool
 /// A partition of a machine.
 #[derive(Debug, Drop)]
 pub(crate) struct Partition {
+    /// Its last finished window.
     at: u32,
+    /// The window that it has open, with the worker who began it.
     opened: Option<(u32, u8)>,
+    /// The windows whose states are saved, in ascending order.
     saved: Vec<u32>,
+    /// Its recovery checkpoint.
     rc: u32,
+    /// The last window whose blocks were dropped.
     floor: u32,
 }
 

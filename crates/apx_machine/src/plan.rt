@@ -6,10 +6,17 @@ use apx_history::Line;
 use std::marker::Model;
 
 /// An operator of a plan: those that it reads, all that are downstream of it, and its number of partitions at first.
+///
+/// ```text
+/// Operator::new(sources, under, 2)
+/// ```
 #[derive(Debug, Drop)]
 pub struct Operator {
+    /// The operators that it reads.
     sources: Vec<u16>,
+    /// All operators that are downstream of it.
     under: Vec<u16>,
+    /// Its number of partitions before any repartition.
     first: u8,
 }
 
@@ -68,12 +75,22 @@ fn stands_in(numbers: &[u16], number: usize) -> bool
 }
 
 /// The plan of a job: its windows, its checkpoint interval, its sink, its operators, its script.
+///
+/// ```text
+/// Plan::new(4, 2, 2, operators, lines)
+/// ```
+/// has four windows, a checkpoint after each second one, and its third operator as the sink.
 #[derive(Debug, Drop)]
 pub struct Plan {
+    /// How many windows the job has.
     windows: u32,
+    /// A checkpoint is made after each so many windows.
     every: u32,
+    /// The number of the sink.
     sink: u16,
+    /// The operators, by their numbers.
     operators: Vec<Operator>,
+    /// The commands of the script, in order.
     lines: Vec<Line>,
 }
 

@@ -1,4 +1,4 @@
-use Rattle.std.proofs.Common.{◌≡◌, ℕ, arith}
+use Rattle.std.proofs.Common.{arith}
 use Rattle.apx_history.specs.State.{no_oper, map_from}
 use Rattle.apx_history.specs.Effects.{trimmed}
 use Rattle.apx_machine.proofs.Mapped.{mapped}

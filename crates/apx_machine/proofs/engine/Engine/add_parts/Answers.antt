@@ -1,4 +1,4 @@
-use Rattle.std.proofs.Common.{◌≡◌, [], ◌∷◌, ◌++◌, ap, ◌∙◌}
+use Rattle.std.proofs.Common.{[], ◌∷◌, ◌++◌, ap, ◌∙◌}
 use Rattle.std.specs.List.{filter}
 use Rattle.apx_history.specs.declared.Event.{Event}
 use Rattle.apx_history.specs.Enabled.{can}

@@ -1,4 +1,3 @@
-use Rattle.std.proofs.Common.{◌≡◌}
 use Rattle.apx_history.specs.State.{parts}
 use Rattle.apx_history.specs.Enabled.{can}
 use Rattle.apx_history.specs.Choices.{list_below}

@@ -1,4 +1,4 @@
-use Rattle.std.proofs.Common.{◌≡◌, ℕ, Bool, length, true, false, sym, ◌∙◌, arith}
+use Rattle.std.proofs.Common.{◌≡◌, length, true, false, sym, ◌∙◌, arith}
 use Rattle.std.proofs.lemmas.Bool.Decides.{nat_tests}
 use Rattle.apx_history.specs.State.{all_parts}
 use Rattle.apx_machine.specs.Asked.{meets}

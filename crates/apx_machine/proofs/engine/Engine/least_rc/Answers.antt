@@ -1,4 +1,4 @@
-use Rattle.std.proofs.Common.{◌≡◌, ap, ◌∙◌, arith}
+use Rattle.std.proofs.Common.{arith}
 use Rattle.apx_history.specs.State.{slot, parts, lowest}
 use Rattle.apx_machine.proofs.Loops.{lowest_none, lowest_more}
 use Rattle.apx_machine.proofs.engine.Engine.least_rc.Goals as goal

@@ -1,4 +1,4 @@
-use Rattle.std.proofs.Common.{◌≡◌, cond, ap, ◌∙◌, arith}
+use Rattle.std.proofs.Common.{cond, arith}
 use Rattle.apx_history.specs.Plan.{reads}
 use Rattle.apx_history.specs.State.{slot, parts, lowest}
 use Rattle.apx_machine.proofs.Loops.{lowest_none, lowest_more}

@@ -1,4 +1,4 @@
-use Rattle.std.proofs.Common.{◌≡◌, ℕ, nat_le, ap, ◌∙◌, arith}
+use Rattle.std.proofs.Common.{ℕ, nat_le, ap, ◌∙◌}
 use Rattle.apx_machine.proofs.Reach.{reach_is}
 use Rattle.apx_machine.proofs.engine.Engine.readers_reach.Goals as goal
 

@@ -1,4 +1,4 @@
-use Rattle.std.proofs.Common.{◌≡◌, ℕ, List, cond, ◌||◌, length, ap, ◌∙◌, arith}
+use Rattle.std.proofs.Common.{ℕ, List, cond, ◌||◌, ap, ◌∙◌, arith}
 use Rattle.apx_history.specs.State.{Slot, Oper, fresh, map_from}
 use Rattle.apx_history.specs.Plan.{kills}
 use Rattle.apx_history.specs.Effects.{back}

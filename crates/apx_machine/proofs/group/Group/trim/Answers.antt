@@ -1,4 +1,4 @@
-use Rattle.std.proofs.Common.{◌≡◌, ℕ, List, cond, ◌||◌, length, ap, ◌∙◌, arith}
+use Rattle.std.proofs.Common.{ℕ, List, ap, ◌∙◌, arith}
 use Rattle.apx_history.specs.State.{Slot, Oper, fresh, map_from}
 use Rattle.apx_history.specs.Effects.{trimmed}
 use Rattle.apx_machine.proofs.Mapped.{mapped}

@@ -1,4 +1,4 @@
-use Rattle.std.proofs.Common.{◌≡◌, sym, subst}
+use Rattle.std.proofs.Common.{sym, subst}
 use Rattle.apx_history.specs.Conditions.{Enabled}
 use Rattle.apx_history.proofs.Legal.{can_facts}
 use Rattle.apx_machine.specs.Machine.{Running}

@@ -1,4 +1,4 @@
-use Rattle.std.proofs.Common.{◌≡◌, sym, subst}
+use Rattle.std.proofs.Common.{sym, subst}
 use Rattle.apx_history.specs.Kept.{IsPlan, Kept}
 use Rattle.apx_history.proofs.Legal.{kept_start}
 use Rattle.apx_machine.specs.Machine.{Running}
