@@ -28,13 +28,22 @@ block_messages plan block tuples ends = (if block.index == 0 then opening plan b
 -- The bytes are those of one message or more: these tuples, none of them below the one before it, and some
 -- of the messages that close the window, in their order, up to the last one where the block is the last.
 pub record Spells (plan : CutPlan) (block : Block) : Type 0 where
+  -- the tuples of its payloads
   pub tuples : List Tuple
+  -- what closes the window, as far as it stands in this block
   pub ends : List Message
+  -- no tuple is below the one before it
   pub ascends : IsAscending tuple_order tuples
+  -- what closes is some of what closes the window
   pub closes : AreSome ends (closing plan block.window)
-  pub last : block.last ≡ true → slice_get ends (length ends - 1) ≡ slice_get (closing plan block.window) (length (closing plan block.window) - 1)
+  -- the last block ends with the last message of its window
+  pub last : block.last ≡ true →
+      slice_get ends (length ends - 1) ≡ slice_get (closing plan block.window) (length (closing plan block.window) - 1)
+  -- there is a message
   pub some : 0 < length (block_messages plan block tuples ends)
+  -- each message fits its spelling
   pub whole : AreMessages (block_messages plan block tuples ends)
+  -- the bytes are those of its messages
   pub bytes : block.bytes ≡ spellings (block_messages plan block tuples ends)
 
 -- the bytes spell what the block says, under some plan

@@ -8,11 +8,17 @@ use Rattle.apx_list.specs.Block.{Spells, AllSpell}
 -- The blocks of the windows above floor up to top, and those so far of the window after. The first of them
 -- has the number first.
 pub record Listed (N : Type 0) : Type 0 where
+  -- the name of the list
   pub name : N
+  -- how its windows are cut
   pub plan : CutPlan
+  -- the last window that was purged
   pub floor : ℕ
+  -- the last window that is whole
   pub top : ℕ
+  -- the number of the first block
   pub first : ℕ
+  -- the blocks, in order
   pub blocks : List Block
 
 -- how many of the blocks are of windows before this one
@@ -67,8 +73,11 @@ next_index index (block ∷ blocks) = next_index (index_after block) blocks
 -- The blocks of a list are in order, from block 0 of the window after floor on. The next one is of the window after
 -- top, and has as its index how many of them are of that window.
 pub record IsRow (floor top : ℕ) (blocks : List Block) : Type 0 where
+  -- they follow one another, from block 0 of the window after the floor on
   pub order : AreConsecutive (floor + 1) 0 blocks
+  -- the next one is of the window after the top
   pub window : next_window (floor + 1) blocks ≡ top + 1
+  -- and its index is how many blocks of that window there are
   pub index : before (top + 1) blocks + next_index 0 blocks ≡ length blocks
 
 -- from a number on, these blocks are those of all
@@ -78,10 +87,15 @@ AreNamed all first blocks = (k : ℕ) → k < length blocks → slice_get all (f
 -- The block may be appended: it is the next one of the window after top, it spells what it says, and it is
 -- the one at its number where the name tells the blocks of the list.
 pub record IsNext {N : Type 0} (named : N → Option (List Block)) (list : Listed N) (block : Block) : Type 0 where
+  -- it is of the window in progress
   pub window : block.window ≡ list.top + 1
+  -- which is one of the run
   pub there : block.window ≤ list.plan.windows
+  -- it is the next one of that window
   pub index : before (list.top + 1) list.blocks + block.index ≡ length list.blocks
+  -- it spells what it says
   pub spells : Spells list.plan block
+  -- it is the one at this number, where the name tells
   pub told : IfSome (named list.name) (λ blocks. slice_get blocks (next_number list) ≡ Some block)
 
 -- the list with one block more, which ends its window if it is the last of it
@@ -93,22 +107,36 @@ with_block list block = record list {
 
 -- Exactly the blocks of windows up to one are gone, and the others keep their numbers.
 pub record IsPurged {N : Type 0} (old new : Listed N) (to : ℕ) : Type 0 where
+  -- the blocks that are gone
   pub gone : List Block
+  -- they stood in front
   pub split : old.blocks ≡ gone ++ new.blocks
+  -- they are of windows up to that one
   pub are_gone : AreUpTo to gone
+  -- the others are of windows above it
   pub are_kept : AreAbove to new.blocks
+  -- the others keep their numbers
   pub first : new.first ≡ old.first + length gone
+  -- the floor is that window
   pub floor : new.floor ≡ to
+  -- the top stays
   pub top : new.top ≡ old.top
+  -- the plan stays
   pub plan : new.plan ≡ old.plan
+  -- the name stays
   pub name : new.name ≡ old.name
 
 -- Blocks of windows up to one are gone from the front, this many, and none is left there.
 pub record IsDropped (old new : List Block) (to count : ℕ) : Type 0 where
+  -- the blocks that are gone
   pub gone : List Block
+  -- they stood in front
   pub split : old ≡ gone ++ new
+  -- they are of windows up to that one
   pub are_gone : AreUpTo to gone
+  -- so many they are
   pub count_is : count ≡ length gone
+  -- the one in front is of a window above it
   pub front : IfSome (slice_get new 0) (λ block. to < block.window)
 
 -- The number of block 0 of a window above the floor, up to the one after top: the blocks of the windows
@@ -122,16 +150,29 @@ start_of list window =
 -- What a list keeps of its numbers beside its blocks, and of the blocks that its name tells.
 pub record IsKept (told : Option (List Block)) (plan : CutPlan) (floor top first : ℕ) (blocks : List Block)
     (from : ℕ) (starts : List ℕ) (next_start : ℕ) : Type 0 where
+  -- the plan is within its limits
   pub plan_is : IsPlan plan
+  -- the floor is not above the top
   pub floor_below : floor ≤ top
+  -- nor the top above the last window
   pub top_below : top ≤ plan.windows
+  -- each block spells what it says
   pub spelled : AllSpell plan blocks
+  -- the windows ascend from that after the floor to that after the top
   pub within : IsWithin (floor + 1) (top + 1) blocks
+  -- the blocks follow one another
   pub row : IsRow floor top blocks
+  -- they are those of the name, where it tells
   pub named : IfSome told (λ all. AreNamed all first blocks)
+  -- the list began at the floor or below
   pub from_below : from ≤ floor
+  -- each whole window since then has a start
   pub count : length starts + from ≡ top
+  -- a start is the number of block 0 of its window
   pub start : (window : ℕ) → floor < window → window ≤ top → slice_index starts (window - from - 1) ≡ first + before window blocks
+  -- so is that of the window in progress
   pub next : next_start ≡ first + before (top + 1) blocks
+  -- whole windows have few blocks
   pub few_finished : next_start ≤ top * 2 ^ 32
+  -- and so has the one in progress
   pub few_next : first + length blocks ≤ next_start + 2 ^ 32

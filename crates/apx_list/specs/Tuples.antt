@@ -36,7 +36,11 @@ Begins bytes = (m : Message) × (rest : List ℕ) × IsMessage m × (bytes ≡ s
 -- Of these messages some are left, spelled by the rest, and the tuples that part i of n owns among the others
 -- stand behind the old ones.
 pub record IsLeft (n i : ℕ) (old : List Tuple) (messages : List Message) (new : List Tuple) (rest : List ℕ) : Type 0 where
+  -- the messages that are left
   pub left : List Message
+  -- each fits its spelling
   pub whole : AreMessages left
+  -- the rest is their bytes
   pub bytes : rest ≡ spellings left
+  -- the tuples of the others stand behind the old ones
   pub tuples : new ++ owned_of n i left ≡ old ++ owned_of n i messages

@@ -73,9 +73,17 @@ impl<S: Spool + Drop, N: Naming + Drop> Model for DataList<S, N> {
 
     ghost Value = { Listed N };
 
-    ghost view = { λ list. record { name = list.name; plan = list.plan; floor = list.floor; top = list.top; first = list.first; blocks = list.blocks.items } };
+    ghost view = { λ list. record {
+      name = list.name;
+      plan = list.plan;
+      floor = list.floor;
+      top = list.top;
+      first = list.first;
+      blocks = list.blocks.items;
+    } };
 
-    ghost invariant = { λ list. IsKept (N.named list.name) list.plan list.floor list.top list.first list.blocks.items list.from list.starts.items list.next_start };
+    ghost invariant = { λ list. IsKept (N.named list.name) list.plan list.floor list.top list.first
+        list.blocks.items list.from list.starts.items list.next_start };
 }
 
 impl<S: Spool + Drop, N: Naming + Drop> DataList<S, N> {

@@ -18,8 +18,11 @@ row_of t = (t.key, t.value)
 
 -- a row has a key of at most 1,024 bytes and a value of 64 bits with a sign
 pub record IsRow (row : Pair) : Type 0 where
+  -- its key is of bytes
   pub bytes : AreBytes row.0
+  -- at most 1,024 of them
   pub short : length row.0 ≤ 1024
+  -- its value is one of 64 bits with a sign
   pub value : FitsSigned w64 row.1
 
 -- each is a row

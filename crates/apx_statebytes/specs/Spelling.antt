@@ -34,12 +34,19 @@ second_spelling g = 255 ∷ 2 ∷ (rows_spelling g.state ++ (rows_spelling (left
 
 -- a progress that isn't large, of rows that have a spelling
 pub record IsProgress (g : Progress) : Type 0 where
+  -- its state is one
   pub state : IsState g.state
+  -- what came on the left is a bag
   pub left : IsBag g.left
+  -- what came on the right is a bag
   pub right : IsBag g.right
+  -- the pairs of its state can be spelled
   pub state_rows : AreRows g.state
+  -- so can the tuples of the left
   pub left_are : AreRows (left_rows g)
+  -- so can those of the right
   pub right_are : AreRows (right_rows g)
+  -- all three together are not large
   pub small : progress_size g < 4294967232
 
 -- The bytes spell the progress: in spelling 2, or in spelling 1, where nothing came on its ports.
