@@ -1,13 +1,17 @@
 //! States: what an operator keeps from window to window.
 ghost use Rattle.std.specs.Prelude.{◌≡◌, ℤ, ◌<◌, ◌==◌, [], length, IfOk, OnOk, OnErr};
 ghost use Rattle.std.specs.Bool.{OnFalse, OnTrue};
+ghost use Rattle.std.specs.BTreeMap.{IsFromIterResult};
 ghost use Rattle.std.specs.Iterator.{YieldsFirstBy, item_count};
+ghost use Rattle.std.specs.List.Sorted.{IsStrictlySortedBy};
+ghost use Rattle.std.specs.Map.{keys_of};
 ghost use Rattle.apx_tuple.specs.Size.{size_by, IsLarge};
 ghost use Rattle.apx_tuple.specs.State.{pair_key, value_at, with_entry, without_entry, IsState};
+ghost use Rattle.apx_tuple.specs.Tuple.{key_order};
 
 use crate::key::Key;
 use crate::refusal::Short;
-use crate::size::{BESIDE_KEY, LARGE};
+use crate::size::{BESIDE_KEY, LARGE, pairs_size};
 use std::alloc::{AllocError, Global};
 use std::collections::{BTreeMap, btree_map};
 use std::marker::Model;
@@ -41,6 +45,25 @@ impl State {
             entries: BTreeMap::new(alloc),
             size: 0,
         }
+    }
+
+    /// The state of these pairs, whose keys ascend already, each once: in one walk, with no look-up.
+    ///
+    /// `Large` comes exactly where they are too large for a state. They are dropped on a refusal.
+    pub fn from_ascending(alloc: Global, pairs: Vec<(Key, i64)>) -> Result<State, Short>
+        requires { IsStrictlySortedBy key_order (keys_of pairs.items) }
+        ensures ok { IfOk result (λ state. state ≡ pairs.items) }
+        ensures small { OnOk result (size_by pair_key pairs.items < 4294967232) }
+        ensures large { result ≡ Err Short.Large → IsLarge pair_key pairs.items }
+        ensures refused { IsLarge pair_key pairs.items → result ≡ Err Short.Large }
+    {
+        let Some(size) = pairs_size(pairs.as_slice()) else {
+            return Err(Short::Large);
+        };
+        Ok(State {
+            entries: collected(alloc, pairs)?,
+            size,
+        })
     }
 
     /// How many keys there are.
@@ -162,6 +185,13 @@ impl State {
             pairs: self.entries.iter(),
         }
     }
+}
+
+/// The pairs as a map. Of pairs that ascend a run is found, and no key is looked up.
+fn collected(alloc: Global, pairs: Vec<(Key, i64)>) -> Result<BTreeMap<Key, i64>, AllocError>
+    ensures { IfOk result (IsFromIterResult key_order pairs.items) }
+{
+    pairs.into_iter().collect(alloc)
 }
 
 /// The pairs of a state that are left, in the keys' order.
