@@ -9,3 +9,5 @@ mod came;
 mod gather;
 mod operator;
 mod pass;
+#[cfg(test)]
+mod tests;
