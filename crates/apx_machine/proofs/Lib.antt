@@ -9,4 +9,5 @@ pub mod Keeping
 pub mod Few
 pub mod Rows
 pub mod Seeking
+pub mod Looked
 pub mod Chosen

@@ -4,5 +4,6 @@ pub mod Changed
 pub mod Stays
 pub mod Begun
 pub mod Small
+pub mod Outlook
 pub mod Listed
 pub mod Picked

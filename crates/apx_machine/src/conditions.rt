@@ -4,16 +4,16 @@ ghost use Rattle.apx_history.specs.Plan.{reads, splits as splits_act, splits_op 
 ghost use Rattle.apx_history.specs.State.{State, oper, parts, slot, IsPart, is_left, running, all_below, all_parts, all_slots, lowest, lowest_slot};
 ghost use Rattle.apx_history.specs.Enabled.{limit, is_part, at_point, at_act, due, in_tree, calm, calm_above, sources_have, readers_rc, readers_reach, greatest, advance_to, least_rc, tree_closed, rests_at, can_start, can_write, can_finish, can_save, can_advance, can_commit, can_purge, can_kill, can_repartition, can_end, can_now, can, is_status as status_at};
 ghost use Rattle.apx_history.specs.Choices.{purge_to};
-ghost use Rattle.apx_machine.specs.Asked.{meets, nearer, reader_rc};
+ghost use Rattle.apx_machine.specs.Asked.{meets};
+ghost use Rattle.apx_machine.specs.Outlook.{IsOutlook};
 
 use crate::engine::Engine;
+use crate::outlook::{Outlook, Toward};
 use apx_history::{Act, Event, Line, Point};
 
 /// What is asked of each partition.
 #[derive(Clone, Copy, Debug)]
 pub(crate) enum Ask {
-    /// Where operator `op` reads it, it has finished the window.
-    Source { op: usize, window: u32 },
     /// Where it is in the tree of the line, it is closed, or the one that the line names.
     Outside { line: usize },
     /// It is closed and has its recovery checkpoint at the window.
@@ -23,7 +23,7 @@ pub(crate) enum Ask {
 }
 
 /// Whether an act repartitions.
-fn splits(act: Act) -> bool
+pub(crate) fn splits(act: Act) -> bool
     ensures { result ≡ splits_act act }
 {
     match act {
@@ -43,13 +43,6 @@ fn fails_part(act: Act, part: usize) -> bool
         } => killed as usize == part,
         Act::Splits { count: _ } => false,
     }
-}
-
-/// Whether a line repartitions an operator.
-fn splits_op(line: Line, op: usize) -> bool
-    ensures { result ≡ splits_at op line }
-{
-    splits(line.act) && line.op as usize == op
 }
 
 /// Whether a line kills a partition.
@@ -86,30 +79,6 @@ impl Engine {
         op < self.len() && part < self.parts(op)
     }
 
-    /// The lesser of a window and that of a line, where the line is left and repartitions an operator.
-    fn nearer(&self, line: usize, op: usize, limit: u32) -> u32
-        requires { line < length self.now.plan.lines }
-        ensures { result ≡ nearer self.now.plan self.now.state line op limit }
-    {
-        let it = self.plan().line(line);
-        if self.is_left(line) && splits_op(it, op) {
-            it.window.min(limit)
-        } else {
-            limit
-        }
-    }
-
-    /// The last window that an operator may come to before its next repartition.
-    pub(crate) fn limit(&self, op: usize) -> u32
-        ensures { result ≡ limit self.now.plan self.now.state op }
-    {
-        let mut limit = self.plan().windows();
-        for line in 0..self.plan().lines() {
-            limit = self.nearer(line, op, limit);
-        }
-        limit
-    }
-
     /// Whether a partition is at the point of a window.
     #[tactic(auto, unfolding(apx_history::specs::Enabled::at_point))]
     fn at_point(&self, op: usize, part: usize, point: Point, window: u32) -> bool
@@ -128,7 +97,7 @@ impl Engine {
     }
 
     /// Whether the act is a kill whose partition is there and at its point.
-    fn at_act(&self, op: usize, window: u32, act: Act) -> bool
+    pub(crate) fn at_act(&self, op: usize, window: u32, act: Act) -> bool
         ensures { result ≡ at_act self.now.plan self.now.state op window act }
     {
         match act {
@@ -136,21 +105,6 @@ impl Engine {
                 && self.at_point(op, part as usize, point, window),
             Act::Splits { count: _ } => false,
         }
-    }
-
-    /// Whether the kill of a line is due.
-    #[tactic(auto, unfolding(apx_history::specs::Enabled::due))]
-    pub(crate) fn due(&self, line: usize) -> bool
-        ensures { result ≡ due self.now.plan self.now.state line }
-    {
-        if !self.is_left(line) {
-            return false;
-        }
-        let it = self.line(line);
-        let op = it.op as usize;
-        self.boundary_of(op) < it.window
-            && it.window <= self.limit(op)
-            && self.at_act(op, it.window, it.act)
     }
 
     /// Whether a partition is in the tree of a line.
@@ -162,46 +116,6 @@ impl Engine {
         kills(it, op, part) || self.plan().below(it.op as usize, op)
     }
 
-    /// Whether a line's kill of a partition isn't due.
-    fn spares(&self, line: usize, op: usize, part: usize) -> bool
-        ensures { result ≡ not (due self.now.plan self.now.state line && kills_at op part (line_at self.now.plan line)) }
-    {
-        !(self.due(line) && kills(self.line(line), op, part))
-    }
-
-    /// Whether a line's kill of a tree that has a partition isn't due.
-    fn spares_tree(&self, line: usize, op: usize, part: usize) -> bool
-        ensures { result ≡ not (due self.now.plan self.now.state line && in_tree self.now.plan line op part) }
-    {
-        !(self.due(line) && self.in_tree(line, op, part))
-    }
-
-    /// Whether no kill is due for a partition.
-    #[tactic(auto, unfolding(apx_history::specs::Enabled::calm))]
-    fn calm(&self, op: usize, part: usize) -> bool
-        ensures { result ≡ calm self.now.plan self.now.state op part }
-    {
-        for line in 0..self.plan().lines() {
-            if !self.spares(line, op, part) {
-                return false;
-            }
-        }
-        true
-    }
-
-    /// Whether none is due for it, nor for one whose tree has it.
-    #[tactic(auto, unfolding(apx_history::specs::Enabled::calm_above))]
-    fn calm_above(&self, op: usize, part: usize) -> bool
-        ensures { result ≡ calm_above self.now.plan self.now.state op part }
-    {
-        for line in 0..self.plan().lines() {
-            if !self.spares_tree(line, op, part) {
-                return false;
-            }
-        }
-        true
-    }
-
     /// Whether a partition meets what is asked.
     fn meets(&self, ask: Ask, op: usize, part: usize) -> bool
         requires every { 0 < self.now.plan.every }
@@ -210,8 +124,6 @@ impl Engine {
     {
         let slot = self.slot(op, part);
         match ask {
-            Ask::Source { op: reader, window } => !self.plan().reads(reader, op)
-                || window <= slot.at(),
             Ask::Outside { line } => !self.in_tree(line, op, part)
                 || kills(self.line(line), op, part)
                 || slot.is_closed(),
@@ -252,18 +164,6 @@ impl Engine {
         true
     }
 
-    /// The least of a number and the recovery checkpoints of an operator's partitions.
-    fn parts_least(&self, op: usize, most: u32) -> u32
-        requires { op < length self.now.state.ops }
-        ensures { result ≡ lowest (parts self.now.state op) (λ i. (slot self.now.state op i).rc) most }
-    {
-        let mut least = most;
-        for part in 0..self.parts(op) {
-            least = least.min(self.slot(op, part).rc());
-        }
-        least
-    }
-
     /// The least recovery checkpoint of all partitions.
     #[tactic(auto, unfolding(apx_history::specs::Enabled::least_rc))]
     pub(crate) fn least_rc(&self) -> u32
@@ -272,61 +172,32 @@ impl Engine {
         let windows = self.plan().windows();
         let mut least = windows;
         for op in 0..self.len() {
-            least = least.min(self.parts_least(op, windows));
+            least = least.min(self.parts_least(Toward::Readers, op, windows));
         }
         least
-    }
-
-    /// The least of a number and the recovery checkpoints of an operator's partitions, where it reads operator `op`.
-    fn reader_least(&self, reader: usize, op: usize, most: u32) -> u32
-        requires { reader < length self.now.state.ops }
-        ensures { result ≡ lowest (parts self.now.state reader) (reader_rc self.now.plan self.now.state reader op most) most }
-    {
-        if self.plan().reads(reader, op) {
-            self.parts_least(reader, most)
-        } else {
-            most
-        }
-    }
-
-    /// The least recovery checkpoint of the partitions that read an operator, or a number where that is less.
-    #[tactic(auto, unfolding(apx_history::specs::Enabled::readers_rc))]
-    pub(crate) fn readers_rc(&self, op: usize, most: u32) -> u32
-        ensures { result ≡ readers_rc self.now.plan self.now.state op most }
-    {
-        let mut least = most;
-        for reader in 0..self.len() {
-            least = least.min(self.reader_least(reader, op, most));
-        }
-        least
-    }
-
-    /// Whether a window is at most the recovery checkpoint of each partition that reads an operator.
-    fn readers_reach(&self, op: usize, window: u32) -> bool
-        ensures { result ≡ readers_reach self.now.plan self.now.state op window }
-    {
-        window <= self.readers_rc(op, window)
     }
 
     /// The window that a partition's recovery checkpoint may come to.
     #[tactic(auto, unfolding(apx_history::specs::Enabled::advance_to))]
-    pub(crate) fn advance_to(&self, op: usize, part: usize) -> u32
-        requires { IsPart self.now.state op part }
+    pub(crate) fn advance_to(&self, look: &Outlook, op: usize, part: usize) -> u32
+        requires look { IsOutlook self.now.plan self.now.state look.now }
+        requires there { IsPart self.now.state op part }
         ensures { result ≡ advance_to self.now.plan self.now.state op part }
     {
         let slot = self.slot(op, part);
+        let least = self.readers_rc(look, op);
         let mut greatest = 0;
         for place in 0..slot.saved_len() {
             let window = slot.saved(place);
-            greatest = greater(window, self.readers_reach(op, window), greatest);
+            greatest = greater(window, window <= least, greatest);
         }
         greatest
     }
 
     /// Whether a partition may start a window.
-    #[tactic(auto, unfolding(apx_history::specs::Enabled::can_start, apx_history::specs::Enabled::sources_have))]
-    fn can_start(&self, op: usize, part: usize, window: u32) -> bool
-        requires { 0 < self.now.plan.every }
+    #[tactic(auto, unfolding(apx_history::specs::Enabled::can_start))]
+    fn can_start(&self, look: &Outlook, op: usize, part: usize, window: u32) -> bool
+        requires { IsOutlook self.now.plan self.now.state look.now }
         ensures { result ≡ can_start self.now.plan self.now.state op part window }
     {
         if !self.is_part(op, part) {
@@ -337,39 +208,41 @@ impl Engine {
             && slot.is_closed()
             && window <= self.plan().windows()
             && window as u64 <= self.committed() as u64 + 4 * self.plan().every() as u64
-            && window <= self.limit(op)
+            && window <= self.limit(look, op)
             && (!self.plan().is_checkpoint(slot.at()) || slot.has(slot.at()))
-            && self.all_meet(Ask::Source { op, window })
-            && self.calm_above(op, part)
+            && self.sources_have(look, op, window)
+            && self.is_calm_above(look, op, part)
     }
 
     /// Whether the sink's window may be stored.
     #[tactic(auto, unfolding(apx_history::specs::Enabled::can_write))]
-    fn can_write(&self, window: u32) -> bool
+    fn can_write(&self, look: &Outlook, window: u32) -> bool
+        requires { IsOutlook self.now.plan self.now.state look.now }
         ensures { result ≡ can_write self.now.plan self.now.state window }
     {
         let sink = self.plan().sink() as usize;
         self.is_part(sink, 0)
             && self.slot(sink, 0).opens(window)
             && window as u64 == self.stored() as u64 + 1
-            && self.calm(sink, 0)
+            && self.is_calm(look, sink, 0)
     }
 
     /// Whether a partition may finish a window.
     #[tactic(auto, unfolding(apx_history::specs::Enabled::can_finish))]
-    fn can_finish(&self, op: usize, part: usize, window: u32) -> bool
+    fn can_finish(&self, look: &Outlook, op: usize, part: usize, window: u32) -> bool
+        requires { IsOutlook self.now.plan self.now.state look.now }
         ensures { result ≡ can_finish self.now.plan self.now.state op part window }
     {
         self.is_part(op, part)
             && self.slot(op, part).opens(window)
             && (op != self.plan().sink() as usize || window <= self.stored())
-            && self.calm(op, part)
+            && self.is_calm(look, op, part)
     }
 
     /// Whether a partition's state after a window may be saved.
     #[tactic(auto, unfolding(apx_history::specs::Enabled::can_save))]
-    fn can_save(&self, op: usize, part: usize, window: u32) -> bool
-        requires { 0 < self.now.plan.every }
+    fn can_save(&self, look: &Outlook, op: usize, part: usize, window: u32) -> bool
+        requires { IsOutlook self.now.plan self.now.state look.now }
         ensures { result ≡ can_save self.now.plan self.now.state op part window }
     {
         self.is_part(op, part)
@@ -378,18 +251,19 @@ impl Engine {
             && self.plan().is_checkpoint(window)
             && !self.slot(op, part).has(window)
             && self.slot(op, part).is_closed()
-            && self.calm(op, part)
+            && self.is_calm(look, op, part)
     }
 
     /// Whether a partition's recovery checkpoint may become a window.
     #[tactic(auto, unfolding(apx_history::specs::Enabled::can_advance))]
-    fn can_advance(&self, op: usize, part: usize, window: u32) -> bool
+    fn can_advance(&self, look: &Outlook, op: usize, part: usize, window: u32) -> bool
+        requires { IsOutlook self.now.plan self.now.state look.now }
         ensures { result ≡ can_advance self.now.plan self.now.state op part window }
     {
         self.is_part(op, part)
-            && window == self.advance_to(op, part)
+            && window == self.advance_to(look, op, part)
             && self.slot(op, part).rc() < window
-            && self.calm(op, part)
+            && self.is_calm(look, op, part)
     }
 
     /// Whether what was saved below a window may be dropped.
@@ -402,36 +276,37 @@ impl Engine {
 
     /// Whether a partition's blocks up to a window may be dropped.
     #[tactic(auto, unfolding(apx_history::specs::Enabled::can_purge))]
-    fn can_purge(&self, op: usize, part: usize, window: u32) -> bool
+    fn can_purge(&self, look: &Outlook, op: usize, part: usize, window: u32) -> bool
+        requires { IsOutlook self.now.plan self.now.state look.now }
         ensures { result ≡ can_purge self.now.plan self.now.state op part window }
     {
         self.is_part(op, part)
             && op != self.plan().sink() as usize
             && self.slot(op, part).floor() < window
             && window <= self.slot(op, part).at()
-            && self.readers_reach(op, window)
+            && self.readers_reach(look, op, window)
     }
 
     /// Whether a line may kill its partition.
     #[tactic(auto, unfolding(apx_history::specs::Enabled::can_kill, apx_history::specs::Enabled::tree_closed))]
-    fn can_kill(&self, line: usize) -> bool
-        requires { 0 < self.now.plan.every }
+    fn can_kill(&self, look: &Outlook, line: usize) -> bool
+        requires { IsOutlook self.now.plan self.now.state look.now }
         ensures { result ≡ can_kill self.now.plan self.now.state line }
     {
-        self.due(line) && self.all_meet(Ask::Outside { line })
+        self.is_due(look, line) && self.all_meet(Ask::Outside { line })
     }
 
     /// Whether a line may repartition its operator.
     #[tactic(auto, unfolding(apx_history::specs::Enabled::can_repartition))]
-    fn can_repartition(&self, line: usize) -> bool
-        requires { 0 < self.now.plan.every }
+    fn can_repartition(&self, look: &Outlook, line: usize) -> bool
+        requires { IsOutlook self.now.plan self.now.state look.now }
         ensures { result ≡ can_repartition self.now.plan self.now.state line }
     {
         let it = self.line(line);
         let op = it.op as usize;
         self.is_left(line)
             && splits(it.act)
-            && it.window == self.limit(op)
+            && it.window == self.limit(look, op)
             && self.rests_at(op, it.window)
     }
 
@@ -461,34 +336,50 @@ impl Engine {
     }
 
     /// Whether an event may come next, the run going on.
-    fn can_now(&self, event: Event) -> bool
-        requires { 0 < self.now.plan.every }
+    fn can_now(&self, look: &Outlook, event: Event) -> bool
+        requires { IsOutlook self.now.plan self.now.state look.now }
         ensures { result ≡ can_now self.now.plan self.now.state event }
     {
         match event {
-            Event::Start { op, part, window } => self.can_start(op as usize, part as usize, window),
-            Event::Write { window } => self.can_write(window),
-            Event::Finish { op, part, window } => self.can_finish(
+            Event::Start { op, part, window } => self.can_start(
+                look,
                 op as usize,
                 part as usize,
                 window,
             ),
-            Event::Save { op, part, window } => self.can_save(op as usize, part as usize, window),
-            Event::Advance { op, part, to } => self.can_advance(op as usize, part as usize, to),
+            Event::Write { window } => self.can_write(look, window),
+            Event::Finish { op, part, window } => self.can_finish(
+                look,
+                op as usize,
+                part as usize,
+                window,
+            ),
+            Event::Save { op, part, window } => self.can_save(
+                look,
+                op as usize,
+                part as usize,
+                window,
+            ),
+            Event::Advance { op, part, to } => self.can_advance(
+                look,
+                op as usize,
+                part as usize,
+                to,
+            ),
             Event::Commit { to } => self.can_commit(to),
-            Event::Purge { op, part, to } => self.can_purge(op as usize, part as usize, to),
-            Event::Kill { line } => self.can_kill(line as usize),
-            Event::Repartition { line } => self.can_repartition(line as usize),
+            Event::Purge { op, part, to } => self.can_purge(look, op as usize, part as usize, to),
+            Event::Kill { line } => self.can_kill(look, line as usize),
+            Event::Repartition { line } => self.can_repartition(look, line as usize),
             Event::End => self.can_end(),
             Event::Fault { status } => is_status(status),
         }
     }
 
     /// Whether an event may come next.
-    pub(crate) fn enabled(&self, event: Event) -> bool
-        requires { 0 < self.now.plan.every }
+    pub(crate) fn enabled(&self, look: &Outlook, event: Event) -> bool
+        requires { IsOutlook self.now.plan self.now.state look.now }
         ensures { result ≡ can self.now.plan self.now.state event }
     {
-        self.is_running() && self.can_now(event)
+        self.is_running() && self.can_now(look, event)
     }
 }

@@ -12,6 +12,7 @@ mod group;
 mod journal;
 mod listing;
 mod machine;
+mod outlook;
 mod partition;
 mod picking;
 mod plan;

@@ -72,7 +72,7 @@ impl Machine {
     pub fn enabled(&self, event: &Event) -> bool
         ensures { result ≡ can self.now.plan self.now.state event.now }
     {
-        self.engine.enabled(*event)
+        self.engine.enabled(&self.engine.outlook(), *event)
     }
 
     /// The events to choose from, in order, in place of what the list had. For want of memory the list may have a part of them.

@@ -7,6 +7,7 @@ ghost use Rattle.apx_history.specs.Enabled.{can, least_rc};
 ghost use Rattle.apx_history.specs.Journals.{owed, owed_act, bears};
 ghost use Rattle.apx_history.specs.Choices.{choices};
 ghost use Rattle.apx_history.specs.Kept.{IsPlan, Kept};
+ghost use Rattle.apx_machine.specs.Outlook.{IsOutlook};
 ghost use Rattle.apx_machine.specs.Small.{IsSmall};
 ghost use Rattle.apx_machine.specs.Listed.{of_op, of_row, of_lines};
 ghost use Rattle.apx_machine.specs.Picked.{killed, ended_by, is_claimed, may_do, first_for, wants, passed, taken, sought_in, found, found_or, ahead};
@@ -14,6 +15,7 @@ ghost use Rattle.apx_machine.specs.declared.picking.Sought.TheVariants.{Ahead};
 
 use crate::engine::Engine;
 use crate::listing::{Met, Row, event_of};
+use crate::outlook::Outlook;
 use apx_history::{Act, Event, Line};
 
 /// More than there are ever events to choose from.
@@ -198,64 +200,58 @@ impl Engine {
     }
 
     /// Whether an event is wanted and may come next.
-    fn is_sought(&self, want: Want, event: Event) -> bool
-        requires { 0 < self.now.plan.every }
+    fn is_sought(&self, look: &Outlook, want: Want, event: Event) -> bool
+        requires { IsOutlook self.now.plan self.now.state look.now }
         ensures { result ≡ (wants self.now.plan self.now.state want event && can self.now.plan self.now.state event) }
     {
-        self.wants(want, event) && self.enabled(event)
+        self.wants(want, event) && self.enabled(look, event)
     }
 
     /// The search once an event was passed that is there to choose where it may come next.
-    fn seek(&self, want: Want, event: Event, sought: Sought) -> Sought
-        requires { 0 < self.now.plan.every }
+    fn seek(&self, look: &Outlook, want: Want, event: Event, sought: Sought) -> Sought
+        requires { IsOutlook self.now.plan self.now.state look.now }
         ensures { result
             ≡ sought_in (wants self.now.plan self.now.state want) (filter (can self.now.plan self.now.state) (event ∷ [])) sought }
     {
         match sought {
             Sought::Found { event: _ } => sought,
-            Sought::Ahead { left } => taken(self.is_sought(want, event), event, left),
+            Sought::Ahead { left } => taken(self.is_sought(look, want, event), event, left),
         }
     }
 
     /// The search once those of a row were passed that an operator's partitions may have next.
-    fn seek_parts(&self, want: Want, row: Row, op: usize, sought: Sought) -> Sought
-        requires every { 0 < self.now.plan.every }
-        requires small { IsSmall self.now.plan }
-        requires kept { Kept self.now.plan self.now.state }
+    fn seek_parts(&self, look: &Outlook, want: Want, row: Row, op: usize, sought: Sought) -> Sought
+        requires look { IsOutlook self.now.plan self.now.state look.now }
         requires there { op < length self.now.state.ops }
         ensures { result ≡ sought_in (wants self.now.plan self.now.state want) (of_op self.now.plan self.now.state row op) sought }
     {
         let mut reached = sought;
         for part in 0..self.parts(op) {
-            reached = self.seek(want, self.candidate(row, op, part), reached);
+            reached = self.seek(look, want, self.candidate(look, row, op, part), reached);
         }
         reached
     }
 
     /// The search once those of a row were passed that all partitions may have next.
-    fn seek_row(&self, want: Want, row: Row, sought: Sought) -> Sought
-        requires every { 0 < self.now.plan.every }
-        requires small { IsSmall self.now.plan }
-        requires kept { Kept self.now.plan self.now.state }
+    fn seek_row(&self, look: &Outlook, want: Want, row: Row, sought: Sought) -> Sought
+        requires { IsOutlook self.now.plan self.now.state look.now }
         ensures { result ≡ sought_in (wants self.now.plan self.now.state want) (of_row self.now.plan self.now.state row) sought }
     {
         let mut reached = sought;
         for op in 0..self.len() {
-            reached = self.seek_parts(want, row, op, reached);
+            reached = self.seek_parts(look, want, row, op, reached);
         }
         reached
     }
 
     /// The search once those of a row were passed that the lines may have next.
-    fn seek_lines(&self, want: Want, row: Met, sought: Sought) -> Sought
-        requires every { 0 < self.now.plan.every }
-        requires small { IsSmall self.now.plan }
-        requires kept { Kept self.now.plan self.now.state }
+    fn seek_lines(&self, look: &Outlook, want: Want, row: Met, sought: Sought) -> Sought
+        requires { IsOutlook self.now.plan self.now.state look.now }
         ensures { result ≡ sought_in (wants self.now.plan self.now.state want) (of_lines self.now.plan self.now.state row) sought }
     {
         let mut reached = sought;
         for line in 0..self.left.len() {
-            reached = self.seek(want, event_of(row, line as u32), reached);
+            reached = self.seek(look, want, event_of(row, line as u32), reached);
         }
         reached
     }
@@ -282,23 +278,21 @@ impl Engine {
 
     /// The search along all choices.
     #[tactic(auto, unfolding(apx_history::specs::Choices::choices))]
-    fn search(&self, want: Want, place: u32) -> Sought
-        requires every { 0 < self.now.plan.every }
-        requires small { IsSmall self.now.plan }
-        requires kept { Kept self.now.plan self.now.state }
+    fn search(&self, look: &Outlook, want: Want, place: u32) -> Sought
+        requires { IsOutlook self.now.plan self.now.state look.now }
         ensures { result ≡ sought_in (wants self.now.plan self.now.state want) (choices self.now.plan self.now.state) (Ahead place) }
     {
         let begun = Sought::Ahead { left: place };
-        let started = self.seek_row(want, Row::Start, begun);
-        let written = self.seek(want, self.next_write(), started);
-        let finished = self.seek_row(want, Row::Finish, written);
-        let saved = self.seek_row(want, Row::Save, finished);
-        let advanced = self.seek_row(want, Row::Advance, saved);
-        let committed = self.seek(want, self.next_commit(), advanced);
-        let purged = self.seek_row(want, Row::Purge, committed);
-        let killed = self.seek_lines(want, Met::Kill, purged);
-        let replaced = self.seek_lines(want, Met::Repartition, killed);
-        self.seek(want, Event::End, replaced)
+        let started = self.seek_row(look, want, Row::Start, begun);
+        let written = self.seek(look, want, self.next_write(), started);
+        let finished = self.seek_row(look, want, Row::Finish, written);
+        let saved = self.seek_row(look, want, Row::Save, finished);
+        let advanced = self.seek_row(look, want, Row::Advance, saved);
+        let committed = self.seek(look, want, self.next_commit(), advanced);
+        let purged = self.seek_row(look, want, Row::Purge, committed);
+        let killed = self.seek_lines(look, want, Met::Kill, purged);
+        let replaced = self.seek_lines(look, want, Met::Repartition, killed);
+        self.seek(look, want, Event::End, replaced)
     }
 
     /// How many events there are to choose from.
@@ -309,32 +303,32 @@ impl Engine {
         ensures count { result ≡ length (choices self.now.plan self.now.state) }
         ensures some { running self.now.state ≡ true → 0 < result }
     {
-        let sought = self.search(Want::Any, MANY);
+        let sought = self.search(&self.outlook(), Want::Any, MANY);
         let left = ahead(sought);
         MANY - left
     }
 
     /// The one at a place.
     pub(crate) fn pick(&self, place: u32) -> Event
-        requires every { 0 < self.now.plan.every }
+        requires plan { IsPlan self.now.plan }
         requires small { IsSmall self.now.plan }
         requires kept { Kept self.now.plan self.now.state }
         requires place { place < length (choices self.now.plan self.now.state) }
         ensures event { result ≡ get_or (choices self.now.plan self.now.state) place End }
         ensures next { can self.now.plan self.now.state result ≡ true }
     {
-        found_or(self.search(Want::Any, place), Event::End)
+        found_or(self.search(&self.outlook(), Want::Any, place), Event::End)
     }
 
     /// The first that a worker may do.
     pub(crate) fn first_for(&self, worker: u8, claim: Option<(u16, u8)>) -> Option<Event>
-        requires every { 0 < self.now.plan.every }
+        requires plan { IsPlan self.now.plan }
         requires small { IsSmall self.now.plan }
         requires kept { Kept self.now.plan self.now.state }
         ensures event { result ≡ first_for self.now.plan self.now.state worker claim }
         ensures next { IfSome result (λ e. can self.now.plan self.now.state e ≡ true) }
         ensures may { IfSome result (λ e. may_do self.now.plan self.now.state worker claim e ≡ true) }
     {
-        found(self.search(Want::For { worker, claim }, 0))
+        found(self.search(&self.outlook(), Want::For { worker, claim }, 0))
     }
 }

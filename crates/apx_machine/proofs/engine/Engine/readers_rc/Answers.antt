@@ -1,12 +1,9 @@
-use Rattle.std.proofs.Common.{cond, arith}
-use Rattle.apx_history.specs.Plan.{reads}
-use Rattle.apx_history.specs.State.{slot, parts, lowest}
-use Rattle.apx_machine.proofs.Loops.{lowest_none, lowest_more}
+use Rattle.std.proofs.Common.{arith}
+use Rattle.apx_machine.proofs.Looked.{few_ops}
 use Rattle.apx_machine.proofs.engine.Engine.readers_rc.Goals as goal
 
-pub loop-reader-init : goal.loop-reader-init
-loop-reader-init c = lowest_none (λ r. lowest (parts c.args.self.now.state r) (λ j. cond (reads c.args.self.now.plan r c.args.op) (slot c.args.self.now.state r j).rc c.args.most) c.args.most) c.args.most
+pub bounds-look-op : goal.bounds-look-op
+bounds-look-op c = let few = few_ops c.args.self.now.plan c.args.self.now.state c.requires.look.small c.requires.look.kept c.args.op c.requires.there in omega arith
 
-pub loop-reader-preserved : goal.loop-reader-preserved
-loop-reader-preserved c = lowest_more (λ r. lowest (parts c.args.self.now.state r) (λ j. cond (reads c.args.self.now.plan r c.args.op) (slot c.args.self.now.state r j).rc c.args.most) c.args.most) c.args.most
-    c.loop-reader.reader c.loop-reader.least c.min-least.result c.loop-reader.invariant (omega (arith, c.min-least.ensures, c.reader_least.ensures))
+pub returns : goal.returns
+returns c = c.requires.look.readers c.args.op (few_ops c.args.self.now.plan c.args.self.now.state c.requires.look.small c.requires.look.kept c.args.op c.requires.there)
