@@ -9,9 +9,11 @@ use Rattle.apx_wire.specs.declared.message.Message.{Message}
 use Rattle.apx_wire.specs.declared.message.Message.TheVariants.{Payload, Begin, End, Checkpoint, Reset, EndOfStream}
 use Rattle.apx_wire.specs.Spelling.{IsMessage}
 
--- What the order looks at in the messages before: the one right before, and the latest window's id.
+-- what the order looks at in the messages before
 pub record Before : Type 0 where
+  -- the one right before, if any
   pub latest : Option Message
+  -- the id of the latest window that began, if any
   pub window : Option ℕ
 
 -- no message yet

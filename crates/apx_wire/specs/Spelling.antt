@@ -15,10 +15,13 @@ use Rattle.apx_wire.specs.declared.message.Message.TheVariants.{Payload, Begin, 
 abbrev pub AreBytes : List ℕ → Type 0
 AreBytes bytes = (i : ℕ) → slice_index bytes i < 256
 
--- the tuple has a key of at most 1,024 bytes and a value of 64 bits with a sign
+-- the tuple fits the fields of a payload
 pub record IsTuple (t : Tuple) : Type 0 where
+  -- its key is of bytes
   pub bytes : AreBytes t.key
+  -- at most 1,024 of them
   pub short : length t.key ≤ 1024
+  -- and its value is a number of 64 bits with a sign
   pub value : FitsSigned w64 t.value
 
 -- what has a spelling
@@ -50,6 +53,9 @@ spellings ms = flat_map spelling ms
 
 -- the bytes begin with the message, which has n of them
 pub record BeginsWith (bytes : List ℕ) (m : Message) (n : ℕ) : Type 0 where
+  -- it has a spelling
   pub message : IsMessage m
+  -- its spelling stands at the front of the bytes
   pub whole : bytes ≡ spelling m ++ drop n bytes
+  -- and has n bytes
   pub len : n ≡ length (spelling m)

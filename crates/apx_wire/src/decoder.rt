@@ -34,7 +34,12 @@ impl Model for Decoder {
 
     ghost Value = { Decoding };
 
-    ghost view = { λ d. record { held = d.held.items; rest = d.rest.items; before = record { latest = d.latest; window = d.window }; fed = d.fed } };
+    ghost view = { λ d. record {
+      held = d.held.items;
+      rest = d.rest.items;
+      before = record { latest = d.latest; window = d.window };
+      fed = d.fed;
+    } };
 
     ghost invariant = { λ d. length d.rest.items ≤ d.fed };
 }
@@ -72,9 +77,13 @@ impl Decoder {
 
         // A decoder that has taken a stream has taken it with the piece, or there is something
         // wrong with the stream and the piece: the first thing that is wrong, and no other.
-        ensures taken { OnOk result ((stream : List ℕ) (handed : List Message) → Decodes stream handed self.old → Decodes (stream ++ piece.now) handed self.new) }
-        ensures refused { IfErr result (λ fault. UnlessMemory fault ((stream : List ℕ) (handed : List Message) → Decodes stream handed self.old → Rejects (stream ++ piece.now) fault)) }
-        ensures only { (stream : List ℕ) (handed : List Message) (fault : WireFault) → Decodes stream handed self.old → Rejects (stream ++ piece.now) fault → (result ≡ Err fault) ⊎ (result ≡ Err WireFault.Memory) }
+        ensures taken { OnOk result ((stream : List ℕ) (handed : List Message) →
+            Decodes stream handed self.old → Decodes (stream ++ piece.now) handed self.new) }
+        ensures refused { IfErr result (λ fault. UnlessMemory fault ((stream : List ℕ) (handed : List Message) →
+            Decodes stream handed self.old → Rejects (stream ++ piece.now) fault)) }
+        ensures only { (stream : List ℕ) (handed : List Message) (fault : WireFault) →
+            Decodes stream handed self.old → Rejects (stream ++ piece.now) fault →
+            (result ≡ Err fault) ⊎ (result ≡ Err WireFault.Memory) }
 
         ensures fed { OnOk result (self.new.fed ≡ self.old.fed + length piece.now) }
         ensures err { OnErr result (self.new ≡ self.old) }
@@ -92,7 +101,8 @@ impl Decoder {
 
     /// Hands out the earliest message that is held. `None` where no whole message is.
     pub fn next(&mut self) -> Option<Message>
-        ensures some { IfSome result (λ m. (self.old.held ≡ m ∷ self.new.held) × ((stream : List ℕ) (handed : List Message) → Decodes stream handed self.old → Decodes stream (handed ++ m ∷ []) self.new)) }
+        ensures some { IfSome result (λ m. (self.old.held ≡ m ∷ self.new.held) × ((stream : List ℕ) (handed : List Message) →
+            Decodes stream handed self.old → Decodes stream (handed ++ m ∷ []) self.new)) }
         ensures none { IfNone result ((self.old.held ≡ []) × (self.new ≡ self.old)) }
     {
         self.held.pop_front()

@@ -13,7 +13,9 @@ pub fn no_spelling_begins_another()
 /// A stream that was taken has one reading, however it was cut, and nothing is wrong with it; in
 /// any other one thing is the first that is wrong.
 pub fn streams_have_one_reading()
-    ensures taken { (stream : List ℕ) (handed others : List Message) (d e : Decoding) → Decodes stream handed d → Decodes stream others e → (handed ++ d.held ≡ others ++ e.held) × (d.rest ≡ e.rest) }
-    ensures apart { (stream : List ℕ) (handed : List Message) (d : Decoding) (fault : WireFault) → Decodes stream handed d → Rejects stream fault → ⊥ }
+    ensures taken { (stream : List ℕ) (handed others : List Message) (d e : Decoding) →
+        Decodes stream handed d → Decodes stream others e → (handed ++ d.held ≡ others ++ e.held) × (d.rest ≡ e.rest) }
+    ensures apart { (stream : List ℕ) (handed : List Message) (d : Decoding) (fault : WireFault) →
+        Decodes stream handed d → Rejects stream fault → ⊥ }
     ensures rejected { (stream : List ℕ) (f g : WireFault) → Rejects stream f → Rejects stream g → f ≡ g }
 {}

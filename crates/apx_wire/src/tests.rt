@@ -1,5 +1,5 @@
 //! The bytes of one window, cut in every way, and what is refused.
-use super::{Decoder, Message, WireFault, payload_number, write};
+use super::{Decoder, Message, WireFault, first_message, payload_number, write, write_payload};
 use apx_tuple::{Key, Tuple};
 use std::alloc::{AllocError, Global};
 use std::process::Abort;
@@ -233,4 +233,37 @@ fn a_payload_tells_its_number_and_its_length(rt: HostRuntime) {
     assert_eq!(rt; payload_number(&WINDOW[5..]), None);
     assert_eq!(rt; payload_number(&WINDOW[14..20]), None);
     assert_eq!(rt; payload_number(&[]), None);
+}
+
+#[test]
+fn the_message_in_front_is_read_with_its_length(rt: HostRuntime) -> Result<(), Fail> {
+    let alloc = rt.alloc();
+    let row = payload(alloc, b"a", 2)?;
+    for (begins, message, len) in [
+        (0, Message::Reset(1_000_000_000), 5),
+        (5, Message::Begin(FIRST), 9),
+        (14, row, 16),
+        (46, Message::End(FIRST), 9),
+    ] {
+        let (_, bytes) = WINDOW.split_at(begins);
+        let found = first_message(alloc, 0, bytes)?;
+        assert_eq!(rt; found, Some((message, len)));
+        let (cut, _) = bytes.split_at(len - 1);
+        assert_eq!(rt; first_message(alloc, 0, cut)?, None);
+    }
+    let told = first_message(alloc, 7, &[9]);
+    assert_eq!(rt; told.err(), Some(WireFault::BadType { at: 7 }));
+    Ok(())
+}
+
+#[test]
+fn a_tuple_is_written_as_its_payload(rt: HostRuntime) -> Result<(), Fail> {
+    let mut bytes = Vec::new(rt.alloc());
+    let tuple = Tuple {
+        key: Key::of(rt.alloc(), b"b")?,
+        value: 1,
+    };
+    write_payload(&tuple, &mut bytes)?;
+    assert_eq!(rt; bytes.as_slice(), &WINDOW[30..46]);
+    Ok(())
 }

@@ -36,10 +36,13 @@ pub fn whole_messages(
     bytes: &[u8],
 ) -> Result<Whole, WireFault>
     requires { place + length bytes.now < 2 ^ 64 }
-    ensures ok { IfOk result (λ read. ReadsTo (record { latest = option_copied latest.entry; window = window }) bytes.now read.messages.items (drop read.len bytes.now)) }
-    ensures window { IfOk result (λ read. read.window ≡ (with_messages (record { latest = option_copied latest.entry; window = window }) read.messages.items).window) }
+    ensures ok { IfOk result (λ read. ReadsTo (record { latest = option_copied latest.entry; window = window })
+        bytes.now read.messages.items (drop read.len bytes.now)) }
+    ensures window { IfOk result (λ read. read.window ≡
+        (with_messages (record { latest = option_copied latest.entry; window = window }) read.messages.items).window) }
     ensures len { IfOk result (λ read. read.len ≤ length bytes.now) }
-    ensures err { IfErr result (λ fault. UnlessMemory fault (RejectsFrom (record { latest = option_copied latest.entry; window = window }) place bytes.now fault)) }
+    ensures err { IfErr result (λ fault. UnlessMemory fault
+        (RejectsFrom (record { latest = option_copied latest.entry; window = window }) place bytes.now fault)) }
 {
     let mut messages = VecDeque::new(alloc);
     let mut window = window;
@@ -72,8 +75,10 @@ fn next_in_order(
     place: u64,
     bytes: &[u8],
 ) -> Result<Option<(Message, usize)>, WireFault>
-    ensures ok { IfOk result (λ found. MatchOption found (IsUnfinished bytes.now) (λ x. BeginsWith bytes.now x.0 x.1 × IsTrue (may_follow (record { latest = option_copied latest.entry; window = window }) x.0))) }
-    ensures err { IfErr result (λ fault. UnlessMemory fault (IsWrong (record { latest = option_copied latest.entry; window = window }) place bytes.now fault)) }
+    ensures ok { IfOk result (λ found. MatchOption found (IsUnfinished bytes.now) (λ x.
+        BeginsWith bytes.now x.0 x.1 × IsTrue (may_follow (record { latest = option_copied latest.entry; window = window }) x.0))) }
+    ensures err { IfErr result (λ fault. UnlessMemory fault
+        (IsWrong (record { latest = option_copied latest.entry; window = window }) place bytes.now fault)) }
 {
     let Some((message, len)) = first_message(alloc, place, bytes)? else {
         return Ok(None);
