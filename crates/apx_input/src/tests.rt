@@ -71,7 +71,7 @@ fn lines_are_cut_and_grouped(rt: HostRuntime) -> Result<(), Fail> {
 
 #[test]
 fn pairs_are_cut_at_the_last_tab(rt: HostRuntime) -> Result<(), Fail> {
-    let rows: [(&[u8], &[u8], &[u8]); 4] = [
+    let rows: [(&[u8], &[u8], &[u8]); 5] = [
         (
             b"k\t9223372036854775807\nk\t1\n",
             b"k=9223372036854775807 ",
@@ -83,6 +83,11 @@ fn pairs_are_cut_at_the_last_tab(rt: HostRuntime) -> Result<(), Fail> {
             b"=-9223372036854775808 ",
         ),
         (b"k\t007\nk\t-0", b"k=7 ", b"k=0 "),
+        (
+            b"k\t999999999999999999\nk\t1000000000000000000",
+            b"k=999999999999999999 ",
+            b"k=1000000000000000000 ",
+        ),
         (b"k\t0000000000000000000000001", b"k=1 ", b""),
     ];
     for (text, first, second) in rows {

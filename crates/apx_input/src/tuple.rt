@@ -2,7 +2,7 @@
 ghost use Rattle.std.specs.Prelude.{◌≡◌, ◌≤◌, length, is_some, IfOk};
 ghost use Rattle.apx_pass.specs.Pairs.{tuple_of};
 
-use crate::pair::pair_of;
+use crate::pair::{is_pair, pair_of};
 use apx_tuple::{InputKind, Key, Tuple};
 use std::alloc::{AllocError, Global};
 
@@ -13,7 +13,7 @@ pub(crate) fn has_tuple(kind: InputKind, line: &[u8]) -> bool
 {
     match kind {
         InputKind::Lines => true,
-        InputKind::Pairs => pair_of(line).is_some(),
+        InputKind::Pairs => is_pair(line),
     }
 }
 
