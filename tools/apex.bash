@@ -1,11 +1,13 @@
 # Completion of apex's words for bash: source this file.
 _apex() {
-    local word="${COMP_WORDS[COMP_CWORD]}"
+    local word="${COMP_WORDS[COMP_CWORD]}" before="${COMP_WORDS[COMP_CWORD - 1]}"
     if [ "$COMP_CWORD" -eq 1 ]; then
-        mapfile -t COMPREPLY < <(compgen -W "check sim" -- "$word")
-    elif [ "$COMP_CWORD" -eq 2 ]; then
+        mapfile -t COMPREPLY < <(compgen -W "check plan sim" -- "$word")
+    elif [ "$COMP_CWORD" -eq 2 ] || [ "$before" = --script ]; then
         mapfile -t COMPREPLY < <(compgen -f -- "$word")
         compopt -o filenames 2>/dev/null
+    elif [ "${COMP_WORDS[1]}" = sim ] && [ $((COMP_CWORD % 2)) -eq 1 ]; then
+        mapfile -t COMPREPLY < <(compgen -W "--base --script --checkpoint --block --keep --order" -- "$word")
     else
         COMPREPLY=()
     fi

@@ -4,7 +4,7 @@ use Rattle.apx_device.specs.Folder.{Answer}
 use Rattle.apx_device.specs.declared.memory_keeper.MemoryKeeper.{MemoryKeeper}
 use Rattle.apx_device.specs.MemoryKeeper.{windows_of}
 use Rattle.apx_load.specs.declared.stop.Stop.{Stop}
-use Rattle.apx_top.specs.Changes.{StoreChange, store_change, OutputChange, output_change}
+use Rattle.apx_top.specs.Changes.{StoreChange, store_change, OutputChange, output_change, call_of}
 use Rattle.apx_top.specs.Plain.{HasEnded}
 
 -- the change of a store in memory
@@ -27,4 +27,4 @@ pub record HasPerformed
   -- and after
   pub after : ℕ
   -- it ended as the top call ends
-  pub ended : HasEnded words answers folder (memory_change fresh keeper) (untold_change before after) end
+  pub ended : HasEnded words (call_of answers folder (memory_change fresh keeper) (untold_change before after)) end

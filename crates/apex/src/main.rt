@@ -7,8 +7,9 @@ ghost use Rattle.apx_load.specs.declared.refusal.Refusal.{Refusal};
 ghost use Rattle.apx_load.specs.declared.refusal.Refusal.TheVariants.{NotACommand};
 ghost use Rattle.apx_load.specs.declared.stop.Stop.TheVariants.{Refused};
 ghost use Rattle.apx_load.specs.Hearing.{HasHeard};
-ghost use Rattle.apx_load.specs.Refusals.{by_files, AreAccepted, IsRefusal};
-ghost use Rattle.apx_load.specs.Words.{command_of};
+ghost use Rattle.apx_cmd.specs.Commands.{command_of};
+ghost use Rattle.apx_load.specs.First.{AreAccepted, IsRefusal};
+ghost use Rattle.apx_load.specs.Refusals.{by_files};
 ghost use Rattle.apx_top.specs.Plain.{HasRefused, IsLargeRun, IsComplete, status_after};
 ghost use Rattle.apex.specs.Performed.{HasPerformed};
 

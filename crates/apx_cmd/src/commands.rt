@@ -68,6 +68,7 @@ pub enum Command {
 pub struct ResumeWords {
     /// The file of the application.
     pub app: Name,
+    /// The settings that its options give.
     pub settings: Settings,
     /// The number that picks the order of the events.
     pub order: u64,

@@ -1,8 +1,7 @@
-//! Words that are commands, and those one change away that are none.
+//! Words that are commands, each beside words one change away that are none.
 use crate::{Command, CommandRefusal, command, record_words, resume_words};
 use apx_script::Settings;
 use std::alloc::{AllocError, Global};
-use std::process::Abort;
 use std::test::Fail;
 
 /// The words of a line, between its spaces.
@@ -21,95 +20,92 @@ fn told(alloc: Global, line: &str) -> Result<Command, Fail> {
     Ok(command(alloc, &words)?)
 }
 
-fn assert_commands(
-    rt: &impl Abort,
-    alloc: Global,
-    lines: &[&str],
-    refusal: Option<CommandRefusal>,
-) -> Result<(), Fail> {
-    for line in lines {
-        let words = words(alloc, line)?;
-        assert_eq!(rt; command(alloc, &words).err(), refusal, "{line:?}");
+/// Why the words of a line are refused, if they are.
+fn refusal(alloc: Global, line: &str) -> Result<Option<CommandRefusal>, Fail> {
+    let words = words(alloc, line)?;
+    Ok(command(alloc, &words).err())
+}
+
+#[test]
+fn each_rule_has_a_command_beside_it(rt: HostRuntime) -> Result<(), Fail> {
+    for (accepted, refused) in [
+        // A command has its name, in small letters, and as many words as it takes.
+        ("check app", ""),
+        ("check app", "app"),
+        ("check app", "Check app"),
+        ("check app", "checks app"),
+        ("check app", "check"),
+        ("check app", "check app more"),
+        ("plan app", "plan"),
+        ("gen 1 2", "gen 1"),
+        ("gen 1 2", "gen 1 2 3"),
+        ("group app groups", "group app"),
+        ("audit app journal", "audit app"),
+        // The commands that are read apart are none of these.
+        ("check app", "resume app dir"),
+        ("check app", "record 2 dir"),
+        ("check app", "--help"),
+        ("check app", "--version"),
+        // A file's name isn't empty and doesn't begin with a minus.
+        ("plan a-b", "plan -ab"),
+        ("check app", "check  app"),
+        ("sim app --script s-", "sim app --script -s"),
+        // Options stand behind the other words, in pairs, each as a word of its own and at most once.
+        ("sim app --order 1", "sim --order 1 app"),
+        ("mean app --base 1", "mean app --base"),
+        ("mean app --base 1", "mean app --base=1"),
+        ("mean app --base 1", "mean app base 1"),
+        ("sim app --base 1 --keep 1", "sim app --base 1 --base 1"),
+        ("sim app --script s", "sim app --script s --script s"),
+        ("sim app", "sim app --"),
+        // Each command has its own.
+        ("mean app --base 1", "plan app --base 1"),
+        ("mean app --base 1", "mean app --order 1"),
+        ("run app --threads 1", "sim app --threads 1"),
+        ("sim app --order 1", "run app --order 1"),
+        (
+            "group app groups --script s --checkpoint 2",
+            "group app groups --order 1",
+        ),
+        ("trace app --order 1", "trace app --threads 1"),
+        (
+            "audit app journal --checkpoint 2 --script s",
+            "audit app journal --base 1",
+        ),
+        // A number is 1 to 20 decimal digits.
+        ("mean app --base 1", "mean app --base -1"),
+        ("mean app --base 1", "mean app --base +1"),
+        (
+            "mean app --base 00000000004294959295",
+            "mean app --base 000000000004294959295",
+        ),
+        // Each has its bounds.
+        ("mean app --base 4294959295", "mean app --base 4294959296"),
+        ("sim app --checkpoint 1", "sim app --checkpoint 0"),
+        ("sim app --checkpoint 1000", "sim app --checkpoint 1001"),
+        ("sim app --block 1040", "sim app --block 1039"),
+        ("sim app --block 1048576", "sim app --block 1048577"),
+        ("sim app --keep 1", "sim app --keep 0"),
+        ("sim app --keep 1000000", "sim app --keep 1000001"),
+        (
+            "sim app --order 18446744073709551615",
+            "sim app --order 18446744073709551616",
+        ),
+        ("run app --threads 1", "run app --threads 0"),
+        ("run app --threads 16", "run app --threads 17"),
+        ("gen 18446744073709551615 1", "gen 18446744073709551616 1"),
+        ("gen 0 1", "gen 0 0"),
+        ("gen 0 200000", "gen 0 200001"),
+    ] {
+        let alloc = rt.alloc();
+        assert_eq!(rt; refusal(alloc, accepted)?, None, "{accepted:?}");
+        assert_eq!(rt;
+            refusal(alloc, refused)?,
+            Some(CommandRefusal::Usage),
+            "{refused:?}"
+        );
     }
     Ok(())
-}
-
-#[test]
-fn commands(rt: HostRuntime) -> Result<(), Fail> {
-    let accepted = [
-        "check app",
-        "plan a-b",
-        "mean app",
-        "mean app --base 0",
-        "mean app --base 00000000004294959295",
-        "sim app",
-        "sim app --order 18446744073709551615 --keep 1000000 --block 1040 --base 7 --script s --checkpoint 1000",
-        "run app --threads 16",
-        "run app --block 1048576 --threads 1 --checkpoint 1 --keep 1",
-        "gen 0 1",
-        "gen 18446744073709551615 200000",
-        "group app groups",
-        "group app groups --script s --checkpoint 2",
-        "trace app --order 3",
-        "audit app journal",
-        "audit app journal --checkpoint 2 --script s",
-    ];
-    assert_commands(&rt, rt.alloc(), accepted.as_slice(), None)
-}
-
-#[test]
-fn one_change_away_from_a_command(rt: HostRuntime) -> Result<(), Fail> {
-    let refused = [
-        "",
-        "check",
-        "check app more",
-        "check -app",
-        "check  app",
-        "Check app",
-        "checks app",
-        "plan app --base 1",
-        "mean app --base",
-        "mean app --base -1",
-        "mean app --base 4294959296",
-        "mean app --base 000000000004294959295",
-        "mean app --base +1",
-        "mean app --base=1",
-        "mean app --order 1",
-        "sim app --base 1 --base 1",
-        "sim app --script -s",
-        "sim app --threads 1",
-        "sim app --order 18446744073709551616",
-        "sim app --checkpoint 0",
-        "sim app --checkpoint 1001",
-        "sim app --block 1039",
-        "sim app --block 1048577",
-        "sim app --keep 0",
-        "sim app --keep 1000001",
-        "sim app --",
-        "sim --order 1 app",
-        "run app --threads 0",
-        "run app --threads 17",
-        "run app --order 1",
-        "gen 1",
-        "gen 1 0",
-        "gen 1 200001",
-        "gen 1 2 3",
-        "group app",
-        "group app groups --order 1",
-        "trace app --threads 1",
-        "audit app",
-        "audit app journal --base 1",
-        "resume app dir",
-        "record 2 dir",
-        "--help",
-        "--version",
-    ];
-    assert_commands(
-        &rt,
-        rt.alloc(),
-        refused.as_slice(),
-        Some(CommandRefusal::Usage),
-    )
 }
 
 #[test]

@@ -17,6 +17,7 @@ use std::marker::Model;
 /// ```
 #[derive(Drop)]
 pub struct Job {
+    /// Its parts, with a script that is judged.
     parts: Parts,
 }
 

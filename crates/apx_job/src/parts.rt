@@ -18,12 +18,15 @@ use std::marker::Model;
 /// A dataflow, a script and settings that belong together, whether or not the script is accepted.
 #[derive(Drop)]
 pub(crate) struct Parts {
+    /// The graph.
     pub(crate) dag: Dag,
     /// What each input reads, in the order of the file.
     pub(crate) inputs: Vec<Windows>,
+    /// The script.
     pub(crate) script: Script,
     /// The script's commands, with the numbers of their operators.
     pub(crate) commands: Vec<Command>,
+    /// The settings.
     pub(crate) settings: Settings,
     /// The most windows of any input.
     pub(crate) windows: u32,

@@ -1,6 +1,6 @@
-mod Windows
 pub mod Heard
 mod Loading
 pub mod Readings
+mod Scripting
 pub mod Stopping
 pub mod Unique

@@ -1,5 +1,5 @@
 -- What is accepted and refused by one reading is so by another that has all of its answers.
-use Rattle.std.proofs.Common.{◌≡◌, ℕ, ◌⊎◌, inl, inr, Bool, true, false, List, [], ◌∷◌, ◌++◌, Option}
+use Rattle.std.proofs.Common.{◌≡◌, ℕ, ◌⊎◌, inl, inr, List, [], ◌∷◌, ◌++◌, Option, Some, None}
 use Rattle.std.specs.Prelude.{Result, Ok, Err}
 use Rattle.apx_device.specs.declared.folder.ReadRefusal.{ReadRefusal}
 use Rattle.apx_device.specs.Folder.{Answer, AreTold}
@@ -7,9 +7,16 @@ use Rattle.apx_device.proofs.Hearing.{Gave-first, Gave-second, Gave-told}
 use Rattle.apx_pass.specs.Graph.{Role, Input, Inner, Sink, Node}
 use Rattle.apx_pass.specs.Groups as groups
 use Rattle.apx_pass.specs.Pass.{Dataflow}
+use Rattle.apx_pass.specs.Script.{Line}
+use Rattle.apx_script.specs.declared.settings.Settings.{Settings}
+use Rattle.apx_cmd.specs.declared.commands.Command.{Command}
+use Rattle.apx_cmd.specs.declared.commands.Command.TheVariants.{Check, Plan, Sim}
+use Rattle.apx_job.specs.Job.{Job}
 use Rattle.apx_load.specs.declared.refusal.Refusal.{Refusal}
 use Rattle.apx_load.specs.declared.refusal.Refusal.TheVariants.{NoFile, FileTooLong}
-use Rattle.apx_load.specs.Refusals.{Reading, by_files, by_answers, IsFileRefusal, IsApplication, IsApplicationRefusal, IsInputOf, IsInputRefusal, AreRead, AreInputs, IsInputsRefusal, IsAcceptedRun, IsRunRefusal, IsAcceptedBy, IsRefusedBy, AreAccepted, IsRefusal, of_words, of_files}
+use Rattle.apx_load.specs.Refusals.{Reading, by_files, by_answers, IsFileRefusal, IsApplication, IsApplicationRefusal, IsInputOf, IsInputRefusal, AreRead, AreInputs, IsInputsRefusal, IsAcceptedRun, IsRunRefusal}
+use Rattle.apx_load.specs.Jobs.{IsScript, IsScriptRefusal, IsScripted, IsScriptedRefusal, IsJob, IsJobRefusal, IsRunJob, IsRunJobRefusal}
+use Rattle.apx_load.specs.First.{IsAcceptedBy, IsRefusedBy, AreAccepted, IsRefusal, of_words, of_files}
 
 -- each answer of the one reading is one of the other
 abbrev pub IsOf : Reading → Reading → Type 0
@@ -76,17 +83,51 @@ module _ (R S : Reading) (of : IsOf R S) where
   of-run-refusal name r (inl application) = inl (of-application-refusal name r application)
   of-run-refusal name r (inr inputs) = inr (inputs.0, of-application name inputs.0 inputs.1, of-inputs-refusal inputs.0 r inputs.2)
 
-  accepted_by : (reads : Bool) (name : List ℕ) → IsAcceptedBy R reads name → IsAcceptedBy S reads name
-  accepted_by false name is = (is.0, of-application name is.0 is.1)
-  accepted_by true name is = (is.0, of-run name is.0 is.1)
+  pub of-script : (name : Option (List ℕ)) (lines : List Line) → IsScript R name lines → IsScript S name lines
+  of-script None lines is = is
+  of-script (Some name) lines is = (is.0, of name _ _ is.1, is.2)
 
-  refused_by : (reads : Bool) (name : List ℕ) (r : Refusal) → IsRefusedBy R reads name r → IsRefusedBy S reads name r
-  refused_by false name r is = of-application-refusal name r is
-  refused_by true name r is = of-run-refusal name r is
+  pub of-script-refusal : (name : Option (List ℕ)) (r : Refusal) → IsScriptRefusal R name r → IsScriptRefusal S name r
+  of-script-refusal None r is = absurd is
+  of-script-refusal (Some name) r (inl file) = inl (file_refusal name _ r file)
+  of-script-refusal (Some name) r (inr text) = inr (text.0, of name _ _ text.1, text.2)
+
+  pub of-scripted : (flow : Dataflow) (script : Option (List ℕ)) (settings : Settings) (job : Job) → IsScripted R flow script settings job → IsScripted S flow script settings job
+  of-scripted flow script settings job is = record { lines = is.lines; read = of-script script is.lines is.read; judged = is.judged; is = is.is }
+
+  pub of-scripted-refusal : (flow : Dataflow) (script : Option (List ℕ)) (settings : Settings) (r : Refusal) → IsScriptedRefusal R flow script settings r → IsScriptedRefusal S flow script settings r
+  of-scripted-refusal flow script settings r (inl own) = inl (of-script-refusal script r own)
+  of-scripted-refusal flow script settings r (inr line) = inr (line.0, of-script script line.0 line.1, line.2)
+
+  pub of-job : (name : List ℕ) (script : Option (List ℕ)) (settings : Settings) (job : Job) → IsJob R name script settings job → IsJob S name script settings job
+  of-job name script settings job is = (is.0, of-run name is.0 is.1, of-scripted is.0 script settings job is.2)
+
+  pub of-job-refusal : (name : List ℕ) (script : Option (List ℕ)) (settings : Settings) (r : Refusal) → IsJobRefusal R name script settings r → IsJobRefusal S name script settings r
+  of-job-refusal name script settings r (inl run) = inl (of-run-refusal name r run)
+  of-job-refusal name script settings r (inr own) = inr (own.0, of-run name own.0 own.1, of-scripted-refusal own.0 script settings r own.2)
+
+  pub of-run-job : (name : List ℕ) (script : Option (List ℕ)) (settings : Settings) (job : Job) → IsRunJob R name script settings job → IsRunJob S name script settings job
+  of-run-job name script settings job is = record { accepted = of-job name script settings job is.accepted; run = is.run }
+
+  pub of-run-job-refusal : (name : List ℕ) (script : Option (List ℕ)) (settings : Settings) (r : Refusal) → IsRunJobRefusal R name script settings r → IsRunJobRefusal S name script settings r
+  of-run-job-refusal name script settings r (inl own) = inl (of-job-refusal name script settings r own)
+  of-run-job-refusal name script settings r (inr job) = inr (job.0, of-job name script settings job.0 job.1, job.2)
+
+  accepted_by : (command : Command) → IsAcceptedBy R command → IsAcceptedBy S command
+  accepted_by (Check app) is = (is.0, of-application app is.0 is.1)
+  accepted_by (Plan app) is = (is.0, of-application app is.0 is.1)
+  accepted_by (Sim app script settings order) is = (is.0, of-run-job app script settings is.0 is.1)
+  accepted_by _ is = absurd is
+
+  refused_by : (command : Command) (r : Refusal) → IsRefusedBy R command r → IsRefusedBy S command r
+  refused_by (Check app) r is = of-application-refusal app r is
+  refused_by (Plan app) r is = of-application-refusal app r is
+  refused_by (Sim app script settings order) r is = of-run-job-refusal app script settings r is
+  refused_by _ r is = is
 
   pub of-accepted : (words : List (List ℕ)) → AreAccepted R words → AreAccepted S words
-  of-accepted words is = record { action = is.action; name = is.name; command = is.command; files = accepted_by _ is.name is.files }
+  of-accepted words is = record { command = is.command; words_are = is.words_are; files = accepted_by is.command is.files }
 
   pub of-refusal : (words : List (List ℕ)) (r : Refusal) → IsRefusal R words r → IsRefusal S words r
   of-refusal words r (of_words none) = of_words none
-  of-refusal words r (of_files action name refusal command is) = of_files action name refusal command (refused_by _ name refusal is)
+  of-refusal words r (of_files command refusal are is) = of_files command refusal are (refused_by command refusal is)

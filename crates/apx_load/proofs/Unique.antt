@@ -1,6 +1,6 @@
--- Words and files are read in one way: a run's dataflow is one, what is refused first is one, and no words
--- and files have both.
-use Rattle.std.proofs.Common.{◌≡◌, ℕ, ◌<◌, ◌⊎◌, Bool, true, false, inl, inr, List, [], ◌∷◌, length, filter_map, Option, Some, None, Ok, Err, arith, refl, ap, sym, subst, ◌∙◌}
+-- Words and files are read in one way: what is accepted is one, what is refused first is one, and words and files have
+-- one of both and never both.
+use Rattle.std.proofs.Common.{◌≡◌, ℕ, zero, suc, ◌<◌, ◌≤◌, ◌⊎◌, inl, inr, List, [], ◌∷◌, length, filter_map, Option, Some, None, Result, Ok, Err, arith, refl, ap, sym, subst, ◌∙◌}
 use Rattle.apx_device.specs.Folder.{IsPast}
 use Rattle.apx_json.specs.Texts.{Application}
 use Rattle.apx_json.specs.Reading.{Reads}
@@ -12,21 +12,33 @@ use Rattle.apx_dag.specs.Rules.{before_cycles, after_cycles}
 use Rattle.apx_dag.specs.Ports.{links_of}
 use Rattle.apx_pass.specs.Graph.{Role, Input, Inner, Sink, Node}
 use Rattle.apx_pass.specs.Groups as groups
-use Rattle.apx_pass.specs.Groups.{Cause, Refused, input_of, first_refused}
+use Rattle.apx_pass.specs.Groups.{Cause, Refused, TooMany, TooLong, BadPair, input_of, first_refused}
 use Rattle.apx_pass.specs.Pass.{Dataflow}
 use Rattle.apx_load.specs.declared.refusal.LineCause.{LineCause}
 use Rattle.apx_load.specs.declared.refusal.LineCause.TheVariants as cause
 use Rattle.apx_load.specs.declared.refusal.Refusal.{Refusal}
-use Rattle.apx_load.specs.declared.refusal.Refusal.TheVariants.{NotACommand, NoFile, FileTooLong, NoJson, WrongShape, BrokenRule, RefusedLine}
-use Rattle.apx_load.specs.declared.words.Action.{Action}
-use Rattle.apx_load.specs.Words.{command_of, reads_inputs}
-use Rattle.apx_load.specs.Refusals.{by_files, IsAppText, IsTextRefusal, IsFileRefusal, IsApplication, IsApplicationRefusal, cause_view, IsInputOf, IsLineRefusal, IsInputRefusal, AreRead, AreInputs, IsInputsRefusal, IsAcceptedRun, IsRunRefusal, IsAcceptedBy, IsRefusedBy, AreAccepted, IsRefusal, of_words, of_files}
+use Rattle.apx_load.specs.declared.refusal.Refusal.TheVariants.{NotACommand, NoFile, FileTooLong, NoJson, WrongShape, BrokenRule, RefusedLine, RefusedCommand, NotBuilt}
+use Rattle.apx_cmd.specs.declared.commands.Command.{Command}
+use Rattle.apx_cmd.specs.declared.commands.Command.TheVariants.{Check, Plan, Sim}
+use Rattle.apx_cmd.specs.Commands.{command_of}
+use Rattle.apx_pass.specs.Script.{Line, RefusedLine as RefusedScript, script_of}
+use Rattle.apx_script.specs.declared.settings.Settings.{Settings}
+use Rattle.apx_job.specs.Job.{Job, refused_line}
+use Rattle.apx_job.specs.Prepared.{job_of}
+use Rattle.serde_json.specs.Data.{Data}
+use Rattle.apx_json.specs.Reading.{IsJson}
+use Rattle.apx_json.specs.Shape.{application_of}
+use Rattle.apx_dag.specs.Order.{Reaches}
+use Rattle.apx_load.specs.Jobs.{IsLineOfText, IsScript, IsScriptRefusal, IsLineOfJob, IsScripted, IsScriptedRefusal, IsJob, IsJobRefusal, IsNotRun, IsRunJob, IsRunJobRefusal}
+use Rattle.apx_load.specs.First.{IsAcceptedBy, IsRefusedBy, AreAccepted, IsRefusal, of_words, of_files}
+use Rattle.apx_load.specs.Refusals.{by_files, IsAppText, IsTextRefusal, IsFileRefusal, IsApplication, IsApplicationRefusal, cause_view, IsInputOf, IsLineRefusal, IsInputRefusal, AreRead, AreInputs, IsInputsRefusal, IsAcceptedRun, IsRunRefusal}
 
--- at most one thing is accepted, at most one refusal comes, and never both
+-- at most one thing is accepted, at most one refusal comes, never both, and never neither
 pub record IsDecided (X : Type 0) (A : X → Type 0) (R : Refusal → Type 0) : Type 0 where
   pub accepted : (x y : X) → A x → A y → x ≡ y
   pub refused : (r s : Refusal) → R r → R s → r ≡ s
   pub apart : (x : X) (r : Refusal) → A x → R r → ⊥
+  pub total : ((x : X) → A x → ⊥) → ((r : Refusal) → R r → ⊥) → ⊥
 
 -- ---- one reading after another
 
@@ -40,11 +52,16 @@ apart_next : (X Y : Type 0) (A : X → Type 0) (R : Refusal → Type 0) (B : X �
 apart_next X Y A R B S first next y r p (inl q) = first.apart p.0 r p.1 q
 apart_next X Y A R B S first next y r p (inr q) = (next q.0).apart y r (subst (λ (x : X). B x y) (first.accepted p.0 q.0 p.1 q.1) p.2) q.2
 
+total_next : (X Y : Type 0) (A : X → Type 0) (R : Refusal → Type 0) (B : X → Y → Type 0) (S : X → Refusal → Type 0) → IsDecided X A R → ((x : X) → IsDecided Y (B x) (S x)) → ((y : Y) → ((x : X) × A x × B x y) → ⊥) → ((r : Refusal) → (R r ⊎ ((x : X) × A x × S x r)) → ⊥) → ⊥
+total_next X Y A R B S first next none unrefused =
+    first.total (λ x a. (next x).total (λ y b. none y (x, a, b)) (λ r s. unrefused r (inr (x, a, s)))) (λ r p. unrefused r (inl p))
+
 then : (X Y : Type 0) (A : X → Type 0) (R : Refusal → Type 0) (B : X → Y → Type 0) (S : X → Refusal → Type 0) → IsDecided X A R → ((x : X) → IsDecided Y (B x) (S x)) → IsDecided Y (λ y. (x : X) × A x × B x y) (λ r. R r ⊎ ((x : X) × A x × S x r))
 then X Y A R B S first next = record {
   accepted = λ y z p q. (next q.0).accepted y z (subst (λ (x : X). B x y) (first.accepted p.0 q.0 p.1 q.1) p.2) q.2;
   refused = refused_next X Y A R B S first next;
   apart = apart_next X Y A R B S first next;
+  total = total_next X Y A R B S first next;
 }
 
 -- ---- a file
@@ -72,8 +89,15 @@ module _ (told : List ℕ → Option (List ℕ)) (name : List ℕ) (limit : ℕ)
       omega (arith, ap length same, p.1, q.1.0.longer)
   file_apart x _ p q = absurd q
 
+  file_by : (file : Option (List ℕ)) → told name ≡ file → ((x : List ℕ) → by_files told name limit (Ok x) → ⊥) → ((r : Refusal) → IsFileRefusal (by_files told) name limit r → ⊥) → ⊥
+  file_by None is none unrefused = unrefused (NoFile name) (refl, (is, tt))
+  file_by (Some bytes) is none unrefused =
+      let short : length bytes ≤ limit → ⊥ = λ within. none bytes (is, within) in
+      let long : limit < length bytes → ⊥ = λ longer. unrefused (FileTooLong name) (refl, (record { bytes = bytes; is = is; longer = longer }, tt)) in
+      omega (arith, short, long)
+
   file_decided : IsDecided (List ℕ) (λ text. by_files told name limit (Ok text)) (IsFileRefusal (by_files told) name limit)
-  file_decided = record { accepted = file_accepted; refused = file_refused; apart = file_apart }
+  file_decided = record { accepted = file_accepted; refused = file_refused; apart = file_apart; total = file_by (told name) refl }
 
 -- ---- the graph of an application
 
@@ -104,6 +128,26 @@ graph_refused app code place code2 place2 (cycle {i = i} p loop c d) (after q e 
 graph_refused app code place code2 place2 (after p c d) (before q) = cc
 graph_refused app code place code2 place2 (after p c d) (cycle {i = j} q loop e f) = absurd (c j loop.here loop.loops)
 graph_refused app code place code2 place2 (after p c d) (after q e f) = same_rule code place code2 place2 (after_cycles app) d f
+
+-- an application whose graph is neither accepted nor refused has no loop
+no_loops : (app : Application) → before_cycles app ≡ Ok tt → ((code : ℕ) (place : List ℕ) → IsRefused app code place → ⊥) → (n j : ℕ) → j < n → j < length (links_of app) → Reaches (links_of app) j j → ⊥
+no_loops app checked unrefused zero j below here loops = omega (arith, below)
+no_loops app checked unrefused (suc n) j below here loops =
+    unrefused 8 (name_at app.operators j) (cycle {i = j} checked (record {
+      here = here;
+      loops = loops;
+      first = λ k earlier again. no_loops app checked unrefused n k (omega (arith, below, earlier)) (omega (arith, here, earlier)) again;
+    }) refl refl)
+
+graph_behind : (app : Application) (later : Checked) → before_cycles app ≡ Ok tt → after_cycles app ≡ later → (IsAccepted app → ⊥) → ((code : ℕ) (place : List ℕ) → IsRefused app code place → ⊥) → ⊥
+graph_behind app (Ok x) checked is none unrefused =
+    none (record { before = checked; acyclic = λ i here. no_loops app checked unrefused (suc i) i (omega arith) here; after = is })
+graph_behind app (Err (code, place)) checked is none unrefused =
+    unrefused code place (after checked (λ i here. no_loops app checked unrefused (suc i) i (omega arith) here) is)
+
+graph_total : (app : Application) (first : Checked) → before_cycles app ≡ first → (IsAccepted app → ⊥) → ((code : ℕ) (place : List ℕ) → IsRefused app code place → ⊥) → ⊥
+graph_total app (Ok x) is none unrefused = graph_behind app (after_cycles app) is refl none unrefused
+graph_total app (Err (code, place)) is none unrefused = unrefused code place (before is)
 
 -- ---- the text of an application
 
@@ -145,8 +189,18 @@ text_apart text nodes (BrokenRule code place) p q =
     graph_apart q.0 code place (subst IsAccepted (read_one text p.app q.0 p.read q.1) p.graph.0) q.2
 text_apart text nodes _ p q = absurd q
 
+text_by : (text : List ℕ) (d : Data) (app : Result Application (List ℕ)) → IsJson text d → application_of d ≡ app → ((nodes : List Node) → IsAppText text nodes → ⊥) → ((r : Refusal) → IsTextRefusal text r → ⊥) → ⊥
+text_by text d (Err place) json is none unrefused = unrefused (WrongShape place) (d, json, is)
+text_by text d (Ok app) json is none unrefused =
+    graph_total app (before_cycles app) refl
+    (λ accepted. none (graph_of app) (record { app = app; read = (d, json, is); graph = (accepted, refl) }))
+    (λ code place refused. unrefused (BrokenRule code place) (app, (d, json, is), refused))
+
+text_total : (text : List ℕ) → ((nodes : List Node) → IsAppText text nodes → ⊥) → ((r : Refusal) → IsTextRefusal text r → ⊥) → ⊥
+text_total text none unrefused = unrefused NoJson (λ d json. text_by text d (application_of d) json refl none unrefused)
+
 text_decided : (text : List ℕ) → IsDecided (List Node) (IsAppText text) (IsTextRefusal text)
-text_decided text = record { accepted = text_accepted text; refused = text_refused text; apart = text_apart text }
+text_decided text = record { accepted = text_accepted text; refused = text_refused text; apart = text_apart text; total = text_total text }
 
 -- ---- the file of an application
 
@@ -158,6 +212,7 @@ application_decided told name = record {
   accepted = λ x y p q. (file_then_text told name).accepted x y (p.text, p.file, p.app) (q.text, q.file, q.app);
   refused = (file_then_text told name).refused;
   apart = λ x r p q. (file_then_text told name).apart x r (p.text, p.file, p.app) q;
+  total = λ none unrefused. (file_then_text told name).total (λ nodes is. none nodes (record { text = is.0; file = is.1; app = is.2 })) unrefused;
 }
 
 -- a file is one application
@@ -203,8 +258,20 @@ line_apart : (read : groups.Input) (file : List ℕ) (input : Option groups.Inpu
 line_apart read file input (RefusedLine f l c) p q = let a = p.0 in let b = q.1 in cc
 line_apart read file input _ p q = absurd q
 
+line_by : (read : groups.Input) (file : List ℕ) (refused : Option Refused) → first_refused read ≡ refused → ((input : Option groups.Input) → IsRead read input → ⊥) → ((r : Refusal) → IsLineRefusal read file r → ⊥) → ⊥
+line_by read file None is none unrefused = none (Some read) (is, refl)
+line_by read file (Some refused) is none unrefused = by refused.cause refl
+  where
+    same : (c : Cause) → refused.cause ≡ c → first_refused read ≡ Some (record { line = refused.line; cause = c })
+    same c e = is ∙ ap (λ (x : Cause). Some (record { line = refused.line; cause = x })) e
+
+    by : (c : Cause) → refused.cause ≡ c → ⊥
+    by TooMany e = unrefused (RefusedLine file refused.line cause.TooMany) (refl, same TooMany e)
+    by TooLong e = unrefused (RefusedLine file refused.line cause.TooLong) (refl, same TooLong e)
+    by BadPair e = unrefused (RefusedLine file refused.line cause.BadPair) (refl, same BadPair e)
+
 lines_decided : (read : groups.Input) (file : List ℕ) → IsDecided (Option groups.Input) (IsRead read) (IsLineRefusal read file)
-lines_decided read file = record { accepted = λ x y p q. p.1 ∙ sym q.1; refused = line_refused read file; apart = line_apart read file }
+lines_decided read file = record { accepted = λ x y p q. p.1 ∙ sym q.1; refused = line_refused read file; apart = line_apart read file; total = line_by read file (first_refused read) refl }
 
 -- ---- an input
 
@@ -217,9 +284,10 @@ input_decided told (Input kind file per_window) =
       accepted = λ x y p q. both.accepted x y (p.0, p.1.is_file, (p.1.accepted, p.2)) (q.0, q.1.is_file, (q.1.accepted, q.2));
       refused = both.refused;
       apart = λ x r p q. both.apart x r (p.0, p.1.is_file, (p.1.accepted, p.2)) q;
+      total = λ none unrefused. both.total (λ input is. none input (is.0, record { is_file = is.1; accepted = is.2.0 }, is.2.1)) unrefused;
     }
-input_decided told (Inner kind) = record { accepted = λ x y p q. p ∙ sym q; refused = λ r s p q. absurd p; apart = λ x r p q. q }
-input_decided told Sink = record { accepted = λ x y p q. p ∙ sym q; refused = λ r s p q. absurd p; apart = λ x r p q. q }
+input_decided told (Inner kind) = record { accepted = λ x y p q. p ∙ sym q; refused = λ r s p q. absurd p; apart = λ x r p q. q; total = λ none unrefused. none None refl }
+input_decided told Sink = record { accepted = λ x y p q. p ∙ sym q; refused = λ r s p q. absurd p; apart = λ x r p q. q; total = λ none unrefused. none None refl }
 
 -- ---- the inputs of all operators
 
@@ -253,6 +321,113 @@ each_apart told (node ∷ nodes) (x ∷ xs) r p (inr q) = each_apart told nodes 
 inputs_apart : (told : List ℕ → Option (List ℕ)) (nodes : List Node) (x : List groups.Input) (r : Refusal) → AreInputs (by_files told) nodes x → IsInputsRefusal (by_files told) nodes r → ⊥
 inputs_apart told nodes x r p q = each_apart told nodes p.each r p.read q
 
+each_total : (told : List ℕ → Option (List ℕ)) (nodes : List Node) → ((each : List (Option groups.Input)) → AreRead (by_files told) nodes each → ⊥) → ((r : Refusal) → IsInputsRefusal (by_files told) nodes r → ⊥) → ⊥
+each_total told [] none unrefused = none [] tt
+each_total told (node ∷ nodes) none unrefused =
+    (input_decided told node.role).total
+    (λ input is. each_total told nodes (λ each are. none (input ∷ each) (is, are)) (λ r there. unrefused r (inr ((input, is), there))))
+    (λ r here. unrefused r (inl here))
+
+inputs_total : (told : List ℕ → Option (List ℕ)) (nodes : List Node) → ((inputs : List groups.Input) → AreInputs (by_files told) nodes inputs → ⊥) → ((r : Refusal) → IsInputsRefusal (by_files told) nodes r → ⊥) → ⊥
+inputs_total told nodes none unrefused =
+    each_total told nodes (λ each are. none (filter_map (λ input. input) each) (record { each = each; read = are; are = refl })) unrefused
+
+-- ---- a script
+
+script_refused : (text : List ℕ) (r s : Refusal) → IsLineOfText text r → IsLineOfText text s → r ≡ s
+script_refused text (RefusedCommand l w) (RefusedCommand m v) p q = same_refused_command l m w v (script_of text) p q
+  where
+    same_refused_command : (l m w v : ℕ) (read : Result (List Line) RefusedScript) → read ≡ Err (record { line = l; why = w }) → read ≡ Err (record { line = m; why = v }) → RefusedCommand l w ≡ RefusedCommand m v
+    same_refused_command l m w v read p q =
+        let a : RefusedScript = record { line = l; why = w } in
+        let b : RefusedScript = record { line = m; why = v } in
+        let p : read ≡ Err a = p in
+        let q : read ≡ Err b = q in
+        let one : a ≡ b = cc in
+        let lines : l ≡ m = ap (λ (x : RefusedScript). x.line) one in
+        let reasons : w ≡ v = ap (λ (x : RefusedScript). x.why) one in
+        cc
+script_refused text (RefusedCommand l w) _ p q = absurd q
+script_refused text _ s p q = absurd p
+
+script_apart : (text : List ℕ) (lines : List Line) (r : Refusal) → script_of text ≡ Ok lines → IsLineOfText text r → ⊥
+script_apart text lines (RefusedCommand l w) p q = let a = p in let b = q in cc
+script_apart text lines _ p q = absurd q
+
+script_total : (text : List ℕ) (read : Result (List Line) RefusedScript) → script_of text ≡ read → ((lines : List Line) → script_of text ≡ Ok lines → ⊥) → ((r : Refusal) → IsLineOfText text r → ⊥) → ⊥
+script_total text (Ok lines) is none unrefused = none lines is
+script_total text (Err refused) is none unrefused = unrefused (RefusedCommand refused.line refused.why) is
+
+same_lines : (text : List ℕ) (x y : List Line) → script_of text ≡ Ok x → script_of text ≡ Ok y → x ≡ y
+same_lines text x y p q = cc
+
+script_text_decided : (text : List ℕ) → IsDecided (List Line) (λ lines. script_of text ≡ Ok lines) (IsLineOfText text)
+script_text_decided text = record { accepted = same_lines text; refused = script_refused text; apart = script_apart text; total = script_total text (script_of text) refl }
+
+script_decided : (told : List ℕ → Option (List ℕ)) (script : Option (List ℕ)) → IsDecided (List Line) (IsScript (by_files told) script) (IsScriptRefusal (by_files told) script)
+script_decided told None = record { accepted = λ x y p q. p ∙ sym q; refused = λ r s p q. absurd p; apart = λ x r p q. q; total = λ none unrefused. none [] refl }
+script_decided told (Some name) =
+    then (List ℕ) (List Line) (λ text. by_files told name 1048576 (Ok text)) (IsFileRefusal (by_files told) name 1048576) (λ text lines. script_of text ≡ Ok lines) IsLineOfText (file_decided told name 1048576) script_text_decided
+
+-- ---- a job
+
+-- the job is this one, and it refuses no line
+abbrev pub IsJudged : Job → Job → Type 0
+IsJudged parts job = (refused_line parts ≡ None) × (job ≡ parts)
+
+judged_refused : (job : Job) (r s : Refusal) → IsLineOfJob job r → IsLineOfJob job s → r ≡ s
+judged_refused job (RefusedCommand l w) (RefusedCommand m v) p q = same_command_line l m w v (refused_line job) p q
+  where
+    same_command_line : (l m w v : ℕ) (read : Option RefusedScript) → read ≡ Some (record { line = l; why = w }) → read ≡ Some (record { line = m; why = v }) → RefusedCommand l w ≡ RefusedCommand m v
+    same_command_line l m w v read p q =
+        let a : RefusedScript = record { line = l; why = w } in
+        let b : RefusedScript = record { line = m; why = v } in
+        let p : read ≡ Some a = p in
+        let q : read ≡ Some b = q in
+        let one : a ≡ b = cc in
+        let lines : l ≡ m = ap (λ (x : RefusedScript). x.line) one in
+        let reasons : w ≡ v = ap (λ (x : RefusedScript). x.why) one in
+        cc
+judged_refused job (RefusedCommand l w) _ p q = absurd q
+judged_refused job _ s p q = absurd p
+
+judged_apart : (parts job : Job) (r : Refusal) → IsJudged parts job → IsLineOfJob parts r → ⊥
+judged_apart parts job (RefusedCommand l w) p q = let a = p.0 in let b = q in cc
+judged_apart parts job _ p q = absurd q
+
+judged_total : (parts : Job) (line : Option RefusedScript) → refused_line parts ≡ line → ((job : Job) → IsJudged parts job → ⊥) → ((r : Refusal) → IsLineOfJob parts r → ⊥) → ⊥
+judged_total parts None is none unrefused = none parts (is, refl)
+judged_total parts (Some refused) is none unrefused = unrefused (RefusedCommand refused.line refused.why) is
+
+judged_decided : (parts : Job) → IsDecided Job (IsJudged parts) (IsLineOfJob parts)
+judged_decided parts = record { accepted = λ x y p q. p.1 ∙ sym q.1; refused = judged_refused parts; apart = judged_apart parts; total = judged_total parts (refused_line parts) refl }
+
+scripted_decided : (told : List ℕ → Option (List ℕ)) (flow : Dataflow) (script : Option (List ℕ)) (settings : Settings) → IsDecided Job (IsScripted (by_files told) flow script settings) (IsScriptedRefusal (by_files told) flow script settings)
+scripted_decided told flow script settings =
+    let parts : List Line → Job = λ lines. job_of flow.nodes flow.inputs lines settings in
+    let both : IsDecided Job (λ job. (lines : List Line) × IsScript (by_files told) script lines × IsJudged (parts lines) job) (IsScriptedRefusal (by_files told) flow script settings) =
+    then (List Line) Job (IsScript (by_files told) script) (IsScriptRefusal (by_files told) script) (λ lines. IsJudged (parts lines)) (λ lines. IsLineOfJob (parts lines)) (script_decided told script) (λ lines. judged_decided (parts lines)) in
+    record {
+      accepted = λ x y p q. both.accepted x y (p.lines, p.read, (p.judged, p.is)) (q.lines, q.read, (q.judged, q.is));
+      refused = both.refused;
+      apart = λ x r p q. both.apart x r (p.lines, p.read, (p.judged, p.is)) q;
+      total = λ none unrefused. both.total (λ job is. none job (record { lines = is.0; read = is.1; judged = is.2.0; is = is.2.1 })) unrefused;
+    }
+
+-- ---- a job that is run
+
+not_run_refused : (job : Job) (r s : Refusal) → IsNotRun job r → IsNotRun job s → r ≡ s
+not_run_refused job NotBuilt NotBuilt p q = refl
+not_run_refused job NotBuilt _ p q = absurd q
+not_run_refused job _ s p q = absurd p
+
+not_run_apart : (job same : Job) (r : Refusal) → (job.script ≡ []) × (same ≡ job) → IsNotRun job r → ⊥
+not_run_apart job same NotBuilt p q = q p.0
+not_run_apart job same _ p q = absurd q
+
+can_run_decided : (job : Job) → IsDecided Job (λ same. (job.script ≡ []) × (same ≡ job)) (IsNotRun job)
+can_run_decided job = record { accepted = λ x y p q. p.1 ∙ sym q.1; refused = not_run_refused job; apart = not_run_apart job; total = λ none unrefused. unrefused NotBuilt (λ e. none job (e, refl)) }
+
 -- ---- words and files
 
 abbrev dataflow : List Node → List groups.Input → Dataflow
@@ -260,15 +435,7 @@ dataflow nodes inputs = record { nodes = nodes; inputs = inputs }
 
 module _ (told : List ℕ → Option (List ℕ)) where
   inputs_decided : (nodes : List Node) → IsDecided (List groups.Input) (AreInputs (by_files told) nodes) (IsInputsRefusal (by_files told) nodes)
-  inputs_decided nodes = record { accepted = inputs_accepted told nodes; refused = inputs_refused told nodes; apart = inputs_apart told nodes }
-
-  run_refused : (name : List ℕ) (r s : Refusal) → IsRunRefusal (by_files told) name r → IsRunRefusal (by_files told) name s → r ≡ s
-  run_refused name = refused_next (List Node) (List groups.Input) (IsApplication (by_files told) name) (IsApplicationRefusal (by_files told) name) (AreInputs (by_files told)) (IsInputsRefusal (by_files told)) (application_decided told name) inputs_decided
-
-  run_apart : (name : List ℕ) (flow : Dataflow) (r : Refusal) → IsAcceptedRun (by_files told) name flow → IsRunRefusal (by_files told) name r → ⊥
-  run_apart name flow r p q =
-      apart_next (List Node) (List groups.Input) (IsApplication (by_files told) name) (IsApplicationRefusal (by_files told) name) (AreInputs (by_files told)) (IsInputsRefusal (by_files told)) (application_decided told name) inputs_decided
-      flow.inputs r (flow.nodes, p.application, p.inputs) q
+  inputs_decided nodes = record { accepted = inputs_accepted told nodes; refused = inputs_refused told nodes; apart = inputs_apart told nodes; total = inputs_total told nodes }
 
   same_flow : (nodes nodes2 : List Node) (inputs inputs2 : List groups.Input) → nodes ≡ nodes2 → inputs ≡ inputs2 → dataflow nodes inputs ≡ dataflow nodes2 inputs2
   same_flow nodes nodes2 inputs inputs2 p q = cc
@@ -280,30 +447,80 @@ module _ (told : List ℕ → Option (List ℕ)) where
       let inputs : flow.inputs ≡ other.inputs = inputs_accepted told other.nodes flow.inputs other.inputs (subst (λ (n : List Node). AreInputs (by_files told) n flow.inputs) nodes p.inputs) q.inputs in
       same_flow flow.nodes other.nodes flow.inputs other.inputs nodes inputs
 
-  refused_by : (reads : Bool) (name : List ℕ) (r s : Refusal) → IsRefusedBy (by_files told) reads name r → IsRefusedBy (by_files told) reads name s → r ≡ s
-  refused_by false name r s p q = (application_decided told name).refused r s p q
-  refused_by true name r s p q = run_refused name r s p q
+  graph_and_inputs : (name : List ℕ) → IsDecided (List groups.Input) (λ inputs. (nodes : List Node) × IsApplication (by_files told) name nodes × AreInputs (by_files told) nodes inputs) (IsRunRefusal (by_files told) name)
+  graph_and_inputs name =
+      then (List Node) (List groups.Input) (IsApplication (by_files told) name) (IsApplicationRefusal (by_files told) name) (AreInputs (by_files told)) (IsInputsRefusal (by_files told)) (application_decided told name) inputs_decided
 
-  apart_by : (reads : Bool) (name : List ℕ) (r : Refusal) → IsAcceptedBy (by_files told) reads name → IsRefusedBy (by_files told) reads name r → ⊥
-  apart_by false name r p q = (application_decided told name).apart p.0 r p.1 q
-  apart_by true name r p q = run_apart name p.0 r p.1 q
+  run_decided : (name : List ℕ) → IsDecided Dataflow (IsAcceptedRun (by_files told) name) (IsRunRefusal (by_files told) name)
+  run_decided name = record {
+    accepted = run-unique name;
+    refused = (graph_and_inputs name).refused;
+    apart = λ flow r p q. (graph_and_inputs name).apart flow.inputs r (flow.nodes, p.application, p.inputs) q;
+    total = λ none unrefused. (graph_and_inputs name).total (λ inputs is. none (dataflow is.0 inputs) (record { application = is.1; inputs = is.2 })) unrefused;
+  }
+
+  job_decided : (name : List ℕ) (script : Option (List ℕ)) (settings : Settings) → IsDecided Job (IsJob (by_files told) name script settings) (IsJobRefusal (by_files told) name script settings)
+  job_decided name script settings =
+      then Dataflow Job (IsAcceptedRun (by_files told) name) (IsRunRefusal (by_files told) name) (λ flow. IsScripted (by_files told) flow script settings) (λ flow. IsScriptedRefusal (by_files told) flow script settings) (run_decided name) (λ flow. scripted_decided told flow script settings)
+
+  run_job_decided : (name : List ℕ) (script : Option (List ℕ)) (settings : Settings) → IsDecided Job (IsRunJob (by_files told) name script settings) (IsRunJobRefusal (by_files told) name script settings)
+  run_job_decided name script settings =
+      let both : IsDecided Job (λ same. (job : Job) × IsJob (by_files told) name script settings job × ((job.script ≡ []) × (same ≡ job))) (IsRunJobRefusal (by_files told) name script settings) =
+      then Job Job (IsJob (by_files told) name script settings) (IsJobRefusal (by_files told) name script settings) (λ job same. (job.script ≡ []) × (same ≡ job)) IsNotRun (job_decided name script settings) can_run_decided in
+      record {
+        accepted = λ x y p q. both.accepted x y (x, p.accepted, (p.run, refl)) (y, q.accepted, (q.run, refl));
+        refused = both.refused;
+        apart = λ x r p q. both.apart x r (x, p.accepted, (p.run, refl)) q;
+        total = λ none unrefused. both.total (λ same is. none is.0 (record { accepted = is.1; run = is.2.0 })) unrefused;
+      }
+
+  -- the job that is run is one
+  pub job-unique : (name : List ℕ) (script : Option (List ℕ)) (settings : Settings) (job other : Job) → IsRunJob (by_files told) name script settings job → IsRunJob (by_files told) name script settings other → job ≡ other
+  job-unique name script settings = (run_job_decided name script settings).accepted
+
+  refused_by : (command : Command) (r s : Refusal) → IsRefusedBy (by_files told) command r → IsRefusedBy (by_files told) command s → r ≡ s
+  refused_by (Check app) r s p q = (application_decided told app).refused r s p q
+  refused_by (Plan app) r s p q = (application_decided told app).refused r s p q
+  refused_by (Sim app script settings order) r s p q = (run_job_decided app script settings).refused r s p q
+  refused_by _ r s p q = p ∙ sym q
+
+  apart_by : (command : Command) (r : Refusal) → IsAcceptedBy (by_files told) command → IsRefusedBy (by_files told) command r → ⊥
+  apart_by (Check app) r p q = (application_decided told app).apart p.0 r p.1 q
+  apart_by (Plan app) r p q = (application_decided told app).apart p.0 r p.1 q
+  apart_by (Sim app script settings order) r p q = (run_job_decided app script settings).apart p.0 r p.1 q
+  apart_by _ r p q = absurd p
+
+  total_by : (command : Command) → (IsAcceptedBy (by_files told) command → ⊥) → ((r : Refusal) → IsRefusedBy (by_files told) command r → ⊥) → ⊥
+  total_by (Check app) none unrefused = (application_decided told app).total (λ nodes is. none (nodes, is)) unrefused
+  total_by (Plan app) none unrefused = (application_decided told app).total (λ nodes is. none (nodes, is)) unrefused
+  total_by (Sim app script settings order) none unrefused = (run_job_decided app script settings).total (λ job is. none (job, is)) unrefused
+  total_by _ none unrefused = unrefused NotBuilt refl
 
   module _ (words : List (List ℕ)) where
-    same_command : (a b : Action × List ℕ) → command_of words ≡ Some a → command_of words ≡ Some b → a ≡ b
+    same_command : (a b : Command) → command_of words ≡ Some a → command_of words ≡ Some b → a ≡ b
     same_command a b p q = cc
 
     -- the first refusal is one
     pub refusal-unique : (r s : Refusal) → IsRefusal (by_files told) words r → IsRefusal (by_files told) words s → r ≡ s
     refusal-unique r s (of_words none) (of_words none2) = refl
-    refusal-unique r s (of_words none) (of_files action name refusal command is) = cc
-    refusal-unique r s (of_files action name refusal command is) (of_words none) = cc
-    refusal-unique r s (of_files action name refusal command is) (of_files action2 name2 refusal2 command2 is2) =
-        refused_by (reads_inputs action2) name2 refusal refusal2
-        (subst (λ (c : Action × List ℕ). IsRefusedBy (by_files told) (reads_inputs c.0) c.1 refusal) (same_command (action, name) (action2, name2) command command2) is) is2
+    refusal-unique r s (of_words none) (of_files command refusal are is) = cc
+    refusal-unique r s (of_files command refusal are is) (of_words none) = cc
+    refusal-unique r s (of_files command refusal are is) (of_files command2 refusal2 are2 is2) =
+        refused_by command2 refusal refusal2
+        (subst (λ (c : Command). IsRefusedBy (by_files told) c refusal) (same_command command command2 are are2) is) is2
 
     -- what is accepted isn't refused
     pub accepted-or-refused : (r : Refusal) → AreAccepted (by_files told) words → IsRefusal (by_files told) words r → ⊥
-    accepted-or-refused r are (of_words none) = let command = are.command in cc
-    accepted-or-refused r are (of_files action name refusal command is) =
-        apart_by (reads_inputs are.action) are.name refusal are.files
-        (subst (λ (c : Action × List ℕ). IsRefusedBy (by_files told) (reads_inputs c.0) c.1 refusal) (same_command (action, name) (are.action, are.name) command are.command) is)
+    accepted-or-refused r are (of_words none) = let command = are.words_are in cc
+    accepted-or-refused r are (of_files command refusal words_are is) =
+        apart_by are.command refusal are.files
+        (subst (λ (c : Command). IsRefusedBy (by_files told) c refusal) (same_command command are.command words_are are.words_are) is)
+
+    total_in : (command : Option Command) → command_of words ≡ command → (AreAccepted (by_files told) words → ⊥) → ((r : Refusal) → IsRefusal (by_files told) words r → ⊥) → ⊥
+    total_in None is none unrefused = unrefused NotACommand (of_words is)
+    total_in (Some command) is none unrefused =
+        total_by command (λ files. none (record { command = command; words_are = is; files = files })) (λ r refused. unrefused r (of_files command r is refused))
+
+    -- words and files are accepted or refused
+    pub never-neither : (AreAccepted (by_files told) words → ⊥) → ((r : Refusal) → IsRefusal (by_files told) words r → ⊥) → ⊥
+    never-neither = total_in (command_of words) refl

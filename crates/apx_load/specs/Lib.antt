@@ -1,4 +1,6 @@
+pub mod First
 pub mod Hearing
+pub mod Jobs
+pub mod Laws
 pub mod Refusals
 pub mod Stops
-pub mod Words

@@ -1,12 +1,11 @@
--- What words and files are accepted, and what is refused of the others.
+-- What applications and inputs are accepted, and what is refused of the others.
 --
 -- A reading says what is read of a file: `reading name limit gave` is that a read of this name, of at most so many
 -- bytes, gives this. There are two: by the files that a folder tells, and by the answers that a call has heard.
 --     IsApplication reading name nodes       the file is an application, and its graph
 --     AreInputs reading nodes inputs         the files of the inputs are there and accepted, and what they hold
---     AreAccepted reading words              the words are a command, and the files that it needs are accepted
---     IsRefusal reading words refusal        the first thing that is refused
-use Rattle.std.specs.Prelude.{◌≡◌, ℕ, ◌≤◌, ◌⊎◌, Bool, true, false, List, [], ◌∷◌, length, filter_map, Option, Some, None, Result, Ok, Err, ⊤}
+--     IsRunRefusal reading name refusal      the first thing that is refused of both
+use Rattle.std.specs.Prelude.{◌≡◌, ℕ, ◌≤◌, ◌⊎◌, List, [], ◌∷◌, length, filter_map, Option, Some, None, Result, Ok, Err, ⊤}
 use Rattle.apx_device.specs.declared.folder.ReadRefusal.{ReadRefusal}
 use Rattle.apx_device.specs.declared.folder.ReadRefusal.TheVariants as read
 use Rattle.apx_device.specs.Folder.{Says, Answer, Gave}
@@ -22,9 +21,7 @@ use Rattle.apx_pass.specs.Pass.{Dataflow}
 use Rattle.apx_load.specs.declared.refusal.LineCause.{LineCause}
 use Rattle.apx_load.specs.declared.refusal.LineCause.TheVariants as cause
 use Rattle.apx_load.specs.declared.refusal.Refusal.{Refusal}
-use Rattle.apx_load.specs.declared.refusal.Refusal.TheVariants.{NotACommand, NoFile, FileTooLong, NoJson, WrongShape, BrokenRule, RefusedLine}
-use Rattle.apx_load.specs.declared.words.Action.{Action}
-use Rattle.apx_load.specs.Words.{command_of, reads_inputs}
+use Rattle.apx_load.specs.declared.refusal.Refusal.TheVariants.{NoFile, FileTooLong, NoJson, WrongShape, BrokenRule, RefusedLine}
 
 -- what a read of a name with a limit gives
 abbrev pub Reading : Type 1
@@ -158,33 +155,3 @@ abbrev pub IsRunRefusal : Reading → List ℕ → Refusal → Type 0
 IsRunRefusal reading name refusal =
     IsApplicationRefusal reading name refusal
     ⊎ ((nodes : List Node) × IsApplication reading name nodes × IsInputsRefusal reading nodes refusal)
-
--- ---- words and files
-
--- what a command needs of its application's file is accepted: the application, and its inputs where it reads them
-abbrev pub IsAcceptedBy : Reading → Bool → List ℕ → Type 0
-IsAcceptedBy reading false name = (nodes : List Node) × IsApplication reading name nodes
-IsAcceptedBy reading true name = (flow : Dataflow) × IsAcceptedRun reading name flow
-
--- what is refused of it first
-abbrev pub IsRefusedBy : Reading → Bool → List ℕ → Refusal → Type 0
-IsRefusedBy reading false = IsApplicationRefusal reading
-IsRefusedBy reading true = IsRunRefusal reading
-
--- the words are a command, and the files that it needs are accepted
-pub record AreAccepted (reading : Reading) (words : List (List ℕ)) : Type 0 where
-  -- what the command does
-  pub action : Action
-  -- its application's file
-  pub name : List ℕ
-  -- the words are this command
-  pub command : command_of words ≡ Some (action, name)
-  -- its files are accepted
-  pub files : IsAcceptedBy reading (reads_inputs action) name
-
--- the first refusal: the words are no command, or the command's files are refused
-pub data IsRefusal (reading : Reading) (words : List (List ℕ)) : Refusal → Type 0 where
-  of_words : command_of words ≡ None → IsRefusal reading words NotACommand
-  of_files :
-      (action : Action) (name : List ℕ) (refusal : Refusal) → command_of words ≡ Some (action, name) →
-      IsRefusedBy reading (reads_inputs action) name refusal → IsRefusal reading words refusal

@@ -4,12 +4,16 @@ use Rattle.apx_json.specs.declared.refusal.JsonRefusal.{JsonRefusal}
 use Rattle.apx_json.specs.declared.refusal.JsonRefusal.TheVariants as json
 use Rattle.apx_dag.specs.declared.refusal.AppRefusal.{AppRefusal}
 use Rattle.apx_dag.specs.declared.refusal.AppRefusal.TheVariants as graph
+use Rattle.apx_cmd.specs.declared.refusal.CommandRefusal.{CommandRefusal}
+use Rattle.apx_cmd.specs.declared.refusal.CommandRefusal.TheVariants as words
+use Rattle.apx_script.specs.declared.refusal.ScriptRefusal.{ScriptRefusal}
+use Rattle.apx_script.specs.declared.refusal.ScriptRefusal.TheVariants as script
 use Rattle.apx_device.specs.declared.folder.ReadRefusal.{ReadRefusal}
 use Rattle.apx_device.specs.declared.folder.ReadRefusal.TheVariants as read
 use Rattle.apx_device.specs.declared.folder.ReadRefusal.TheVariants.{Absent, TooLong, Failed}
 use Rattle.apx_device.specs.Folder.{Answer, StopsAt}
 use Rattle.apx_load.specs.declared.refusal.Refusal.{Refusal}
-use Rattle.apx_load.specs.declared.refusal.Refusal.TheVariants.{NoFile, FileTooLong, NoJson, WrongShape, BrokenRule}
+use Rattle.apx_load.specs.declared.refusal.Refusal.TheVariants.{NotACommand, NoFile, FileTooLong, NoJson, WrongShape, BrokenRule, RefusedCommand}
 use Rattle.apx_load.specs.declared.stop.Stop.{Stop}
 use Rattle.apx_load.specs.declared.stop.Stop.TheVariants.{Refused, CannotRead, StoreFailed, OutputFailed, Memory, Large}
 
@@ -51,7 +55,12 @@ abbrev pub reading_causes : (Refusal → Type 0) → List Answer → Type 0 → 
 reading_causes refuses answers rose =
     record no_causes { refuses = refuses; unread = λ name. rose × StopsAt answers name Failed }
 
--- ---- the stop for a refusal of an application's text or of its graph
+-- ---- the stop for a refusal of words, of an application's text or graph, or of a script
+
+-- the stop for a refusal of words
+abbrev pub stop_of_words : CommandRefusal → Stop
+stop_of_words words.Usage = Refused NotACommand
+stop_of_words words.Memory = Memory
 
 -- the stop for a refusal of an application's text
 abbrev pub stop_of_json : JsonRefusal → Stop
@@ -63,3 +72,8 @@ stop_of_json json.Memory = Memory
 abbrev pub stop_of_graph : AppRefusal → Stop
 stop_of_graph (graph.Refused code place) = Refused (BrokenRule code place)
 stop_of_graph graph.Memory = Memory
+
+-- the stop for a refusal of a script
+abbrev pub stop_of_script : ScriptRefusal → Stop
+stop_of_script (script.Line line why) = Refused (RefusedCommand line why)
+stop_of_script script.Memory = Memory

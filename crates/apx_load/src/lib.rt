@@ -1,15 +1,16 @@
-//! From the words of the command line and the files that they name to the dataflow of a run, or to the first
-//! thing that is refused.
+//! From the names of files to the job of a run, or to the first thing that is refused.
 #![tactic(auto)]
 
-pub use load::{application, inputs, run, window_count};
+pub use jobs::job;
+pub use laws::words_and_files_are_decided;
+pub use load::{application, inputs, run};
 pub use refusal::{LineCause, Refusal};
 pub use stop::Stop;
-pub use words::{Action, command};
 
+mod jobs;
+mod laws;
 mod load;
 mod refusal;
 mod stop;
 #[cfg(test)]
 mod tests;
-mod words;

@@ -6,7 +6,7 @@ ghost use Rattle.apx_input.specs.Refusals.{Reports};
 ghost use Rattle.apx_pass.specs.Graph.{Input, is_input};
 ghost use Rattle.apx_pass.specs.Groups as groups;
 ghost use Rattle.apx_pass.specs.Groups.{first_refused};
-ghost use Rattle.apx_pass.specs.Pass.{inputs_before, windows_of};
+ghost use Rattle.apx_pass.specs.Pass.{inputs_before};
 ghost use Rattle.apx_load.specs.Refusals.{by_answers, IsFileRefusal, IsAppText, IsTextRefusal, IsApplication, IsApplicationRefusal, IsInputOf, IsLineRefusal, IsInputRefusal, AreInputs, IsInputsRefusal, IsAcceptedRun, IsRunRefusal};
 ghost use Rattle.apx_load.specs.Stops.{IsCaused, no_causes, reading_causes, IsUnread};
 ghost use Rattle.apx_load.specs.Hearing.{HasHeard};
@@ -44,7 +44,7 @@ pub fn application<F: Folder>(alloc: Global, files: &mut F, name: &str) -> Resul
 }
 
 /// The bytes of a file of at most `limit` bytes.
-fn read_file<F: Folder>(
+pub(crate) fn read_file<F: Folder>(
     alloc: Global,
     files: &mut F,
     name: &str,
@@ -193,16 +193,4 @@ pub fn run<F: Folder>(alloc: Global, files: &mut F, name: &str) -> Result<(Dag, 
     let dag = application(alloc, files, name)?;
     let inputs = inputs(alloc, files, &dag)?;
     Ok((dag, inputs))
-}
-
-/// How many windows a run has: the most of any input, at most 20,000.
-pub fn window_count(inputs: &[Windows]) -> u32
-    ensures count { result ≡ windows_of inputs.now }
-    ensures few { result ≤ 20000 }
-{
-    let mut count = 0;
-    for input in inputs {
-        count = count.max(input.count());
-    }
-    count
 }

@@ -13,7 +13,7 @@ pub enum LineCause {
 }
 
 /// The first thing that is refused, in this order: the words, the application's file, its text and its
-/// graph, and then for each input its file and its lines.
+/// graph, then for each input its file and its lines, then the script's file and its lines.
 #[derive(Debug, Drop)]
 pub enum Refusal {
     /// The words are no command.
@@ -43,4 +43,11 @@ pub enum Refusal {
         line: u64,
         cause: LineCause,
     },
+    /// The first line of the script that is refused, counted from 1, and why: 1 to 10.
+    RefusedCommand {
+        line: u64,
+        why: u8,
+    },
+    /// It is accepted, and asks for what the program doesn't do yet.
+    NotBuilt,
 }

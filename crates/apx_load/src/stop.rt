@@ -1,7 +1,9 @@
 //! Why a run stops before its end.
 use crate::refusal::Refusal;
+use apx_cmd::CommandRefusal;
 use apx_dag::AppRefusal;
 use apx_json::{JsonRefusal, Name};
+use apx_script::ScriptRefusal;
 use std::alloc::{AllocError, AllocFailed};
 
 /// Why a run stops before its end.
@@ -71,6 +73,37 @@ impl From<AppRefusal> for Stop {
                 place,
             }),
             AppRefusal::Memory => Stop::Memory,
+        }
+    }
+}
+
+impl From<CommandRefusal> for Stop {
+    ghost use Rattle.std.specs.Prelude.{◌≡◌};
+    ghost use Rattle.apx_load.specs.Stops.{stop_of_words};
+
+    ghost from_gives = { λ refusal stop. stop ≡ stop_of_words refusal };
+
+    fn from(refusal: CommandRefusal) -> Stop {
+        match refusal {
+            CommandRefusal::Usage => Stop::Refused(Refusal::NotACommand),
+            CommandRefusal::Memory => Stop::Memory,
+        }
+    }
+}
+
+impl From<ScriptRefusal> for Stop {
+    ghost use Rattle.std.specs.Prelude.{◌≡◌};
+    ghost use Rattle.apx_load.specs.Stops.{stop_of_script};
+
+    ghost from_gives = { λ refusal stop. stop ≡ stop_of_script refusal };
+
+    fn from(refusal: ScriptRefusal) -> Stop {
+        match refusal {
+            ScriptRefusal::Line { line, why } => Stop::Refused(Refusal::RefusedCommand {
+                line,
+                why,
+            }),
+            ScriptRefusal::Memory => Stop::Memory,
         }
     }
 }

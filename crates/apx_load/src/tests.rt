@@ -1,8 +1,10 @@
-//! Words, applications and input files that are accepted, and those that are refused.
+//! Applications, inputs and scripts that are accepted, and those that are refused.
 
 use super::*;
 use apx_dag::Dag;
 use apx_device::{FailingFolder, Folder, MemoryFolder};
+use apx_json::Name;
+use apx_script::Settings;
 use std::alloc::{AllocError, Global};
 use std::test::Fail;
 
@@ -23,14 +25,6 @@ fn folder(alloc: Global, files: &[(&str, &str)]) -> Result<MemoryFolder, AllocEr
         folder.add(alloc, name, Vec::from_slice(alloc, text.as_bytes())?)?;
     }
     Ok(folder)
-}
-
-fn words(alloc: Global, words: &[&str]) -> Result<Vec<String>, AllocError> {
-    let mut texts = Vec::new(alloc);
-    for word in words {
-        texts.push(String::from_str(alloc, word)?)?;
-    }
-    Ok(texts)
 }
 
 /// A text with blanks behind it, up to a length.
@@ -57,25 +51,6 @@ fn inputs_stop(alloc: Global, files: &[(&str, &str)]) -> Result<Option<Stop>, Fa
 }
 
 #[test]
-fn a_command_is_an_action_and_a_file(rt: HostRuntime) -> Result<(), Fail> {
-    let rows: [(&[&str], Option<(Action, &str)>); 8] = [
-        (&["sim", "app.json"], Some((Action::Sim, "app.json"))),
-        (&["check", "a-b"], Some((Action::Check, "a-b"))),
-        (&[], None),
-        (&["sim"], None),
-        (&["sim", ""], None),
-        (&["sim", "-a"], None),
-        (&["run", "app.json"], None),
-        (&["sim", "app.json", "more"], None),
-    ];
-    for (given, want) in rows {
-        let given = words(rt.alloc(), given)?;
-        assert!(rt; command(&given) == want);
-    }
-    Ok(())
-}
-
-#[test]
 fn a_run_is_read_from_its_files(rt: HostRuntime) -> Result<(), Fail> {
     let alloc = rt.alloc();
     let rows = [
@@ -92,10 +67,8 @@ fn a_run_is_read_from_its_files(rt: HostRuntime) -> Result<(), Fail> {
         counts.push(input.count())?;
     }
     assert_eq!(rt; counts.as_slice(), [3, 2].as_slice());
-    assert_eq!(rt; window_count(&inputs), 3);
-    assert_eq!(rt; window_count(&[]), 0);
     let (dag, inputs) = run(alloc, &mut files, "app").map_err(|_| "refused")?;
-    assert_eq!(rt; (dag.len(), inputs.len(), window_count(&inputs)), (4, 2, 3));
+    assert_eq!(rt; (dag.len(), inputs.len()), (4, 2));
     Ok(())
 }
 
@@ -159,5 +132,104 @@ fn a_failed_read_is_no_refusal(rt: HostRuntime) -> Result<(), Fail> {
     };
     assert_eq!(rt; name.text(), "a.txt");
     assert_eq!(rt; files.faults(), 1);
+    Ok(())
+}
+
+/// Lines that two partitions split into words, which are counted and stored.
+const WORD_COUNT: &str =
+    r#"{"operators":[{"name":"in","class":"lines","properties":{"file":"in.txt","perWindow":1}},{"name":"split","class":"words","attributes":{"PARTITIONS":2}},{"name":"tally","class":"count"},{"name":"out","class":"store"}],"streams":[{"name":"a","source":{"operatorName":"in","portName":"output"},"sinks":[{"operatorName":"split","portName":"input"}]},{"name":"b","source":{"operatorName":"split","portName":"output"},"sinks":[{"operatorName":"tally","portName":"input"}]},{"name":"c","source":{"operatorName":"tally","portName":"output"},"sinks":[{"operatorName":"out","portName":"input"}]}]}"#;
+
+/// How many commands the job of six windows and a script has, with a checkpoint each second window; or the
+/// refused line and its reason.
+fn judged(alloc: Global, script: &str) -> Result<Result<usize, (u64, u8)>, Fail> {
+    let rows = [
+        ("app", WORD_COUNT),
+        ("in.txt", "a\nb\nc\nd\ne\nf\n"),
+        ("script", script),
+    ];
+    let mut files = folder(alloc, &rows)?;
+    let name = Name::of(alloc, "script")?;
+    let mut settings = Settings::default();
+    settings.every = 2;
+    match job(alloc, &mut files, "app", Some(&name), settings) {
+        Ok(job) => Ok(Ok(job.lines().len())),
+        Err(Stop::Refused(Refusal::RefusedCommand { line, why })) => Ok(Err((line, why))),
+        Err(_) => Err("another stop")?,
+    }
+}
+
+#[test]
+fn each_reason_has_an_accepted_script_beside_it(rt: HostRuntime) -> Result<(), Fail> {
+    for (accepted, refused, line, why) in [
+        ("kill done 1 0 tally\n", "kill now 1 0 tally\n", 1, 1),
+        (
+            "# a\n\nkill done 1 0 tally\n",
+            "# a\n\nkill done 1  0 tally\n",
+            3,
+            1,
+        ),
+        ("kill done 1 0 tally\n", "kill done 1 0 tallies\n", 1, 3),
+        ("kill done 6 0 tally\n", "kill done 7 0 tally\n", 1, 4),
+        ("kill done 1 0 tally\n", "kill done 0 0 tally\n", 1, 4),
+        ("repartition 4 3 tally\n", "repartition 3 3 tally\n", 1, 5),
+        ("repartition 4 8 tally\n", "repartition 4 9 tally\n", 1, 6),
+        ("repartition 4 1 tally\n", "repartition 4 0 tally\n", 1, 6),
+        ("repartition 4 3 tally\n", "repartition 4 3 in\n", 1, 7),
+        (
+            "repartition 2 3 tally\nrepartition 4 3 tally\n",
+            "repartition 4 3 tally\nrepartition 4 3 tally\n",
+            2,
+            8,
+        ),
+        ("kill written 2 0 out\n", "kill written 2 0 tally\n", 1, 10),
+        ("kill done 1 1 split\n", "kill done 1 2 split\n", 1, 9),
+        (
+            "kill done 1 1 split\nkill written 2 0 out\n",
+            "kill done 1 2 split\nkill written 2 0 tally\n",
+            2,
+            10,
+        ),
+    ] {
+        assert!(rt; judged(rt.alloc(), accepted)?.is_ok(), "at {accepted}");
+        assert_eq!(rt;
+            judged(rt.alloc(), refused)?,
+            Err((line, why)),
+            "at {refused}"
+        );
+    }
+    Ok(())
+}
+
+#[test]
+fn a_script_has_at_most_1000_commands(rt: HostRuntime) -> Result<(), Fail> {
+    let mut script = String::new(rt.alloc());
+    for _ in 0..1000 {
+        script.push_str("kill done 1 0 tally\n")?;
+    }
+    assert_eq!(rt; judged(rt.alloc(), script.as_str())?, Ok(1000));
+    script.push_str("kill done 1 0 tally\n")?;
+    assert_eq!(rt; judged(rt.alloc(), script.as_str())?, Err((1001, 2)));
+    Ok(())
+}
+
+#[test]
+fn a_script_is_read_behind_the_inputs(rt: HostRuntime) -> Result<(), Fail> {
+    let alloc = rt.alloc();
+    let name = Name::of(alloc, "script")?;
+    let settings = Settings::default();
+    let mut files = folder(alloc, &[("app", WORD_COUNT)])?;
+    let stop = job(alloc, &mut files, "app", Some(&name), settings).err();
+    let Some(Stop::Refused(Refusal::NoFile { name: absent })) = stop else {
+        return Err("no refusal")?;
+    };
+    assert_eq!(rt; absent.text(), "in.txt");
+    let mut files = folder(alloc, &[("app", WORD_COUNT), ("in.txt", "a\n")])?;
+    let stop = job(alloc, &mut files, "app", Some(&name), settings).err();
+    let Some(Stop::Refused(Refusal::NoFile { name: absent })) = stop else {
+        return Err("no refusal")?;
+    };
+    assert_eq!(rt; absent.text(), "script");
+    let job = job(alloc, &mut files, "app", None, settings).map_err(|_| "refused")?;
+    assert_eq!(rt; (job.windows(), job.lines().len()), (1, 0));
     Ok(())
 }

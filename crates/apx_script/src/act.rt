@@ -42,6 +42,7 @@ pub enum Act {
 pub struct Line {
     /// The number of its line, from 1.
     pub number: u64,
+    /// What it commands.
     pub act: Act,
 }
 

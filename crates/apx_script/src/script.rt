@@ -15,6 +15,7 @@ use std::marker::Model;
 /// ```
 #[derive(Debug, Drop)]
 pub struct Script {
+    /// The commands, without the lines that are passed over.
     pub(crate) lines: Vec<Line>,
 }
 

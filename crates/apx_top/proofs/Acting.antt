@@ -1,25 +1,39 @@
 -- What the end of a command says of words and files.
 use Rattle.std.proofs.Common.{◌≡◌, ℕ, ◌⊎◌, inl, inr, List, [], ◌∷◌, ◌++◌, length, Bool, true, false, refl, sym, ap, ◌∙◌, subst, IsTrue}
-use Rattle.std.specs.Prelude.{Result, Ok, Err, ⊤, Option, Some, None}
+use Rattle.std.specs.Prelude.{Result, Ok, Err, ⊤, Option, Some, None, is_some}
+use Rattle.std.specs.Prelude.{option_map}
+use Rattle.std.specs.Option.{option_copied}
+use Rattle.std.specs.Borrow.{Bor}
 use Rattle.apx_device.specs.Folder.{Answer, AreTold}
+use Rattle.apx_load.specs.Hearing.{HasHeard}
+use Rattle.apx_load.proofs.Heard.{heard_none}
 use Rattle.apx_pass.specs.Large.{IsLargeDataflow}
-use Rattle.apx_pass.specs.Graph.{Role, Input, Inner, Sink, Node}
 use Rattle.apx_pass.specs.Pass.{Dataflow}
+use Rattle.apx_pass.specs.Graph.{Role, Input, Inner, Sink, Node}
 use Rattle.apx_load.specs.declared.stop.Stop.{Stop}
 use Rattle.apx_load.specs.declared.stop.Stop.TheVariants.{Refused, CannotRead, StoreFailed, OutputFailed, Memory, Large}
 use Rattle.apx_load.specs.declared.refusal.Refusal.{Refusal}
-use Rattle.apx_load.specs.declared.refusal.Refusal.TheVariants.{NotACommand, NoFile, FileTooLong, NoJson, WrongShape, BrokenRule, RefusedLine}
-use Rattle.apx_load.specs.declared.words.Action.TheVariants.{Check, Sim}
-use Rattle.apx_load.specs.Refusals.{Reading, by_answers, by_files, IsFileRefusal, IsTextRefusal, IsApplication, IsApplicationRefusal, IsInputRefusal, IsInputsRefusal, IsAcceptedRun, IsRunRefusal, AreAccepted, IsRefusal, of_words, of_files}
-use Rattle.apx_load.specs.Stops.{Causes, IsCaused, no_causes, reading_causes}
-use Rattle.apx_load.specs.Words.{command_of}
-use Rattle.apx_load.proofs.Readings.{by-told, of-accepted, of-refusal, of-run}
+use Rattle.apx_load.specs.declared.refusal.Refusal.TheVariants.{NotACommand, NoFile, FileTooLong, NoJson, WrongShape, BrokenRule, RefusedLine, RefusedCommand, NotBuilt}
+use Rattle.apx_cmd.specs.declared.commands.Command.{Command}
+use Rattle.apx_cmd.specs.declared.commands.Command.TheVariants.{Check, Plan, Mean, Sim, Run, Gen, Group, Trace, Audit}
+use Rattle.apx_cmd.specs.declared.refusal.CommandRefusal.{CommandRefusal}
+use Rattle.apx_cmd.specs.declared.refusal.CommandRefusal.TheVariants as unread_words
+use Rattle.apx_cmd.specs.Answers.{Answers}
+use Rattle.apx_cmd.specs.Commands.{command_of}
+use Rattle.apx_script.specs.declared.settings.Settings.{Settings}
+use Rattle.apx_job.specs.Job.{Job}
+use Rattle.apx_plan.specs.Plan.{plan_text}
+use Rattle.apx_load.specs.Refusals.{Reading, by_answers, by_files, IsFileRefusal, IsApplication, IsApplicationRefusal, IsInputRefusal, IsInputsRefusal, IsRunRefusal}
+use Rattle.apx_load.specs.Jobs.{IsScriptRefusal, IsScriptedRefusal, IsJobRefusal, IsRunJob, IsRunJobRefusal}
+use Rattle.apx_load.specs.First.{AreAccepted, IsRefusal, of_words, of_files}
+use Rattle.apx_load.specs.Stops.{Causes, IsCaused, no_causes, reading_causes, stop_of_words}
+use Rattle.apx_load.proofs.Readings.{by-told, of-accepted, of-refusal, of-run-job}
 use Rattle.apx_load.proofs.Stopping.{AreWeaker, caused_weaker}
 use Rattle.apx_load.proofs.Unique.{refusal-unique, accepted-or-refused}
-use Rattle.apx_top.specs.Changes.{StoreChange, OutputChange}
+use Rattle.apx_top.specs.Changes.{StoreChange, OutputChange, Call, call_of}
 use Rattle.apx_top.specs.Store.{storing_causes}
-use Rattle.apx_top.specs.Run.{HasRunTo, HasPassedTo, printing_causes, stopped_reading, passed}
-use Rattle.apx_top.specs.Plain.{checking_causes, LeavesOf, HasCheckedTo, HasEnded, no_command, checked, ran, HasRefused, IsLargeRun, IsComplete}
+use Rattle.apx_top.specs.Run.{Told, HasRunTo, HasPassedTo, printing_causes, run_reading_causes, stopped_reading, passed}
+use Rattle.apx_top.specs.Plain.{judging_causes, LeavesOf, HasToldTo, ok_text, HasStayed, HasTold, HasPerformed, HasEnded, no_command, unread, performed, HasRefused, IsLargeRun, IsComplete}
 
 -- what can stop a command at all: a refusal of its words and files; a file that can't be read; a fault of the store or of
 -- the output, once words and files were accepted; or a dataflow that is too large
@@ -40,17 +54,17 @@ HasCause reading words folder store output (Err stop) = IsCaused (ending_causes 
 -- ---- reading leaves nothing
 
 -- a stop of reading leaves nothing of the output
-pub unwritten : (text : List ℕ) (output : OutputChange) (refuses : Refusal → Type 0) (answers : List Answer) (folder : Type 0) (stop : Stop) → IsCaused (reading_causes refuses answers folder) stop → output.after ≡ output.before → LeavesOf text output stop
-unwritten text output refuses answers folder (Refused refusal) is same = same
-unwritten text output refuses answers folder (CannotRead name) is same = same
-unwritten text output refuses answers folder StoreFailed is same = same
-unwritten text output refuses answers folder OutputFailed is same = absurd is
-unwritten text output refuses answers folder Memory is same = same
-unwritten text output refuses answers folder Large is same = same
+pub unwritten : (text : List Node → List ℕ) (application : List Node → Type 0) (output : OutputChange) (refuses : Refusal → Type 0) (answers : List Answer) (folder : Type 0) (stop : Stop) → IsCaused (reading_causes refuses answers folder) stop → output.after ≡ output.before → LeavesOf text application output stop
+unwritten text application output refuses answers folder (Refused refusal) is same = same
+unwritten text application output refuses answers folder (CannotRead name) is same = same
+unwritten text application output refuses answers folder StoreFailed is same = same
+unwritten text application output refuses answers folder OutputFailed is same = absurd is
+unwritten text application output refuses answers folder Memory is same = same
+unwritten text application output refuses answers folder Large is same = same
 
 -- a stop of reading is one of judging
-pub check-cause : (name : List ℕ) (answers : List Answer) (folder output : Type 0) (stop : Stop) → IsCaused (reading_causes (IsApplicationRefusal (by_answers answers) name) answers folder) stop → IsCaused (checking_causes name answers folder output) stop
-check-cause name answers folder output stop is =
+pub judge-cause : (name : List ℕ) (answers : List Answer) (folder output : Type 0) (stop : Stop) → IsCaused (reading_causes (IsApplicationRefusal (by_answers answers) name) answers folder) stop → IsCaused (judging_causes name answers folder output) stop
+judge-cause name answers folder output stop is =
     caused_weaker _ _ stop (record { refuses = λ refusal r. r; unread = λ file r. r; store = λ none. none; output = λ none. absurd none; large = λ none. none }) is
 
 -- ---- no refusal of a file is one of words
@@ -77,101 +91,145 @@ run_apart : (reading : Reading) (name : List ℕ) → IsRunRefusal reading name 
 run_apart reading name (inl is) = application_apart reading name is
 run_apart reading name (inr is) = inputs_apart reading is.0 is.2
 
+script_apart : (reading : Reading) (script : Option (List ℕ)) → IsScriptRefusal reading script NotACommand → ⊥
+script_apart reading None is = is
+script_apart reading (Some name) (inl is) = is
+script_apart reading (Some name) (inr is) = is.2
+
+scripted_apart : (reading : Reading) (flow : Dataflow) (script : Option (List ℕ)) (settings : Settings) → IsScriptedRefusal reading flow script settings NotACommand → ⊥
+scripted_apart reading flow script settings (inl is) = script_apart reading script is
+scripted_apart reading flow script settings (inr is) = is.2
+
+job_apart : (reading : Reading) (name : List ℕ) (script : Option (List ℕ)) (settings : Settings) → IsJobRefusal reading name script settings NotACommand → ⊥
+job_apart reading name script settings (inl is) = run_apart reading name is
+job_apart reading name script settings (inr is) = scripted_apart reading is.0 script settings is.2
+
+run_job_apart : (reading : Reading) (name : List ℕ) (script : Option (List ℕ)) (settings : Settings) → IsRunJobRefusal reading name script settings NotACommand → ⊥
+run_job_apart reading name script settings (inl is) = job_apart reading name script settings is
+run_job_apart reading name script settings (inr is) = is.2
+
+-- words aren't both none and some command
+none_and_some : (command : Option Command) → command ≡ None → is_some command ≡ true → ⊥
+none_and_some None none some = cc
+none_and_some (Some command) none some = cc
+
 -- ---- the end of a command
 
-module _ (words : List (List ℕ)) (answers : List Answer) (folder : Type 0) (store : StoreChange) (output : OutputChange) where
-  accepted : (name : List ℕ) (flow : Dataflow) → command_of words ≡ Some (Sim, name) → IsAcceptedRun (by_answers answers) name flow → AreAccepted (by_answers answers) words
-  accepted name flow command is = record { action = Sim; name = name; command = command; files = (flow, is) }
+module _ (words : List (List ℕ)) (call : Call) where
+  -- words that tell nothing end so
+  pub unheard : (refusal : CommandRefusal) → call.answers ≡ [] → call.store.same → call.output.after ≡ call.output.before → Answers (command_of words) (Err refusal) → HasEnded words call (Err (stop_of_words refusal))
+  unheard unread_words.Usage none same unprinted is = no_command is (record { is = refl; unread = none; same = same; unprinted = unprinted })
+  unheard unread_words.Memory none same unprinted is = unread is (record { is = refl; unread = none; same = same; unprinted = unprinted })
 
-  check_end : (name : List ℕ) (end : Result ⊤ Stop) → command_of words ≡ Some (Check, name) → HasCheckedTo name answers folder output end → HasCause (by_answers answers) words folder store.rose output.rose end
-  check_end name (Ok v) command is = record { action = Check; name = name; command = command; files = is.0 }
-  check_end name (Err stop) command is =
-      caused_weaker (checking_causes name answers folder output.rose) (ending_causes (by_answers answers) words folder store.rose output.rose) stop
+  told_end : (text : List Node → List ℕ) (name : List ℕ) (end : Result ⊤ Stop) → ((nodes : List Node) → IsApplication (by_answers call.answers) name nodes → AreAccepted (by_answers call.answers) words) → ((r : Refusal) → IsApplicationRefusal (by_answers call.answers) name r → IsRefusal (by_answers call.answers) words r) → HasToldTo text name call.answers call.folder call.output end → HasCause (by_answers call.answers) words call.folder call.store.rose call.output.rose end
+  told_end text name (Ok v) accepted refused is = accepted is.0 is.1
+  told_end text name (Err stop) accepted refused is =
+      caused_weaker (judging_causes name call.answers call.folder call.output.rose) (ending_causes (by_answers call.answers) words call.folder call.store.rose call.output.rose) stop
       (record {
-        refuses = λ refusal r. of_files Check name refusal command r;
+        refuses = refused;
         unread = λ file r. r.0;
         store = λ none. absurd none;
-        output = λ o. (o.0, record { action = Check; name = name; command = command; files = o.1 });
+        output = λ o. (o.0, accepted o.1.0 o.1.1);
         large = λ none. absurd none;
       }) is.0
 
-  run_end : (name : List ℕ) (end : Result ⊤ Stop) → command_of words ≡ Some (Sim, name) → HasRunTo name answers folder store output end → HasCause (by_answers answers) words folder store.rose output.rose end
-  run_end name end command (stopped_reading stop is cause same unprinted) =
-      rw is (caused_weaker (reading_causes (IsRunRefusal (by_answers answers) name) answers folder) (ending_causes (by_answers answers) words folder store.rose output.rose) stop
+  accepted : (told : Told) (order : ℕ) (job : Job) → command_of words ≡ Some (Sim told.app told.script told.settings order) → IsRunJob (by_answers call.answers) told.app told.script told.settings job → AreAccepted (by_answers call.answers) words
+  accepted told order job command is = record { command = Sim told.app told.script told.settings order; words_are = command; files = (job, is) }
+
+  run_end : (told : Told) (order : ℕ) (end : Result ⊤ Stop) → command_of words ≡ Some (Sim told.app told.script told.settings order) → HasRunTo told call end → HasCause (by_answers call.answers) words call.folder call.store.rose call.output.rose end
+  run_end told order end command (stopped_reading stop is cause same unprinted) =
+      rw is (caused_weaker (run_reading_causes told call) (ending_causes (by_answers call.answers) words call.folder call.store.rose call.output.rose) stop
       (record {
-        refuses = λ refusal r. of_files Sim name refusal command r;
+        refuses = λ refusal r. of_files (Sim told.app told.script told.settings order) refusal command r;
         unread = λ file r. r.0;
         store = λ none. absurd none;
         output = λ none. absurd none;
         large = λ none. absurd none;
       }) cause)
-  run_end name (Ok v) command (passed flow is done) = accepted name flow command is
-  run_end name (Err stop) command (passed flow is (inl some)) =
-      caused_weaker (storing_causes flow store.rose) (ending_causes (by_answers answers) words folder store.rose output.rose) stop
+  run_end told order (Ok v) command (passed job is done) = accepted told order job command is
+  run_end told order (Err stop) command (passed job is (inl some)) =
+      caused_weaker (storing_causes job.flow call.store.rose) (ending_causes (by_answers call.answers) words call.folder call.store.rose call.output.rose) stop
       (record {
         refuses = λ refusal none. absurd none;
         unread = λ file none. absurd none;
-        store = λ rose. (rose, accepted name flow command is);
+        store = λ rose. (rose, accepted told order job command is);
         output = λ none. absurd none;
-        large = λ large. record { name = name; command = command; flow = flow; accepted = is; large = large };
+        large = λ large. record { told = told; order = order; command = command; job = job; accepted = is; large = large };
       }) some.cause
-  run_end name (Err stop) command (passed flow is (inr some)) =
-      caused_weaker (printing_causes store.rose output.rose) (ending_causes (by_answers answers) words folder store.rose output.rose) stop
+  run_end told order (Err stop) command (passed job is (inr some)) =
+      caused_weaker (printing_causes call.store.rose call.output.rose) (ending_causes (by_answers call.answers) words call.folder call.store.rose call.output.rose) stop
       (record {
         refuses = λ refusal none. absurd none;
         unread = λ file none. absurd none;
-        store = λ rose. (rose, accepted name flow command is);
-        output = λ rose. (rose, accepted name flow command is);
+        store = λ rose. (rose, accepted told order job command is);
+        output = λ rose. (rose, accepted told order job command is);
         large = λ none. absurd none;
       }) some.cause
 
-  end_cause : (end : Result ⊤ Stop) → HasEnded words answers folder store output end → HasCause (by_answers answers) words folder store.rose output.rose end
-  end_cause end (no_command none is read same unprinted) = rw is (of_words none)
-  end_cause end (checked name command one same is) = check_end name end command is
-  end_cause end (ran name command is) = run_end name end command is
+  unbuilt_end : (command : Command) (end : Result ⊤ Stop) → IsRefusal (by_answers call.answers) words NotBuilt → HasStayed call end (Refused NotBuilt) → HasCause (by_answers call.answers) words call.folder call.store.rose call.output.rose end
+  unbuilt_end command end refused stayed = rw stayed.is refused
+
+  command_end : (command : Command) (end : Result ⊤ Stop) → command_of words ≡ Some command → HasPerformed command call end → HasCause (by_answers call.answers) words call.folder call.store.rose call.output.rose end
+  command_end (Check app) end is told = told_end ok_text app end (λ nodes a. record { command = Check app; words_are = is; files = (nodes, a) }) (λ r refused. of_files (Check app) r is refused) told.told
+  command_end (Plan app) end is told = told_end plan_text app end (λ nodes a. record { command = Plan app; words_are = is; files = (nodes, a) }) (λ r refused. of_files (Plan app) r is refused) told.told
+  command_end (Sim app script settings order) end is ran = run_end (record { app = app; script = script; settings = settings }) order end is ran
+  command_end (Mean app base) end is stayed = unbuilt_end (Mean app base) end (of_files (Mean app base) NotBuilt is refl) stayed
+  command_end (Run app script settings threads) end is stayed = unbuilt_end (Run app script settings threads) end (of_files (Run app script settings threads) NotBuilt is refl) stayed
+  command_end (Gen number size) end is stayed = unbuilt_end (Gen number size) end (of_files (Gen number size) NotBuilt is refl) stayed
+  command_end (Group app groups script settings) end is stayed = unbuilt_end (Group app groups script settings) end (of_files (Group app groups script settings) NotBuilt is refl) stayed
+  command_end (Trace app script settings order) end is stayed = unbuilt_end (Trace app script settings order) end (of_files (Trace app script settings order) NotBuilt is refl) stayed
+  command_end (Audit app journal script settings) end is stayed = unbuilt_end (Audit app journal script settings) end (of_files (Audit app journal script settings) NotBuilt is refl) stayed
+
+  end_cause : (end : Result ⊤ Stop) → HasEnded words call end → HasCause (by_answers call.answers) words call.folder call.store.rose call.output.rose end
+  end_cause end (no_command none stayed) = rw stayed.is (of_words none)
+  end_cause end (unread some stayed) = rw stayed.is tt
+  end_cause end (performed command is done) = command_end command end is done
 
   -- ---- what is said of the words alone
 
   -- words that are no command are told so
-  pub words-refused : (end : Result ⊤ Stop) → HasEnded words answers folder store output end → command_of words ≡ None → end ≡ Err (Refused NotACommand)
-  words-refused end (no_command none is read same unprinted) words_are = is
-  words-refused end (checked name command one same is) words_are = cc
-  words-refused end (ran name command is) words_are = cc
+  pub words-refused : (end : Result ⊤ Stop) → HasEnded words call end → command_of words ≡ None → end ≡ Err (Refused NotACommand)
+  words-refused end (no_command none stayed) words_are = stayed.is
+  words-refused end (unread some stayed) words_are = absurd (none_and_some (command_of words) words_are some)
+  words-refused end (performed command is done) words_are = cc
 
-  apart : (r : Refusal) → IsRefusal (by_answers answers) words r → r ≡ NotACommand → command_of words ≡ None
+  apart : (r : Refusal) → IsRefusal (by_answers call.answers) words r → r ≡ NotACommand → command_of words ≡ None
   apart r (of_words none) e = none
-  apart r (of_files Check name refusal command is) e = absurd (application_apart (by_answers answers) name (subst (IsApplicationRefusal (by_answers answers) name) e is))
-  apart r (of_files Sim name refusal command is) e = absurd (run_apart (by_answers answers) name (subst (IsRunRefusal (by_answers answers) name) e is))
+  apart r (of_files (Check app) refusal command is) e = absurd (application_apart (by_answers call.answers) app (subst (IsApplicationRefusal (by_answers call.answers) app) e is))
+  apart r (of_files (Plan app) refusal command is) e = absurd (application_apart (by_answers call.answers) app (subst (IsApplicationRefusal (by_answers call.answers) app) e is))
+  apart r (of_files (Sim app script settings order) refusal command is) e = absurd (run_job_apart (by_answers call.answers) app script settings (subst (IsRunJobRefusal (by_answers call.answers) app script settings) e is))
+  apart r (of_files _ refusal command is) e = let built : refusal ≡ NotBuilt = is in cc
 
   -- and no others
-  pub refused-words : (end : Result ⊤ Stop) → HasEnded words answers folder store output end → end ≡ Err (Refused NotACommand) → command_of words ≡ None
-  refused-words end ended e = apart NotACommand (subst (HasCause (by_answers answers) words folder store.rose output.rose) e (end_cause end ended)) refl
+  pub refused-words : (end : Result ⊤ Stop) → HasEnded words call end → end ≡ Err (Refused NotACommand) → command_of words ≡ None
+  refused-words end ended e = apart NotACommand (subst (HasCause (by_answers call.answers) words call.folder call.store.rose call.output.rose) e (end_cause end ended)) refl
 
   -- ---- what is said of told files
 
-  module _ (files : List ℕ → Option (List ℕ)) (told : AreTold files answers) where
-    told_accepted : AreAccepted (by_answers answers) words → AreAccepted (by_files files) words
-    told_accepted is = of-accepted (by_answers answers) (by_files files) (by-told files answers told) words is
+  module _ (files : List ℕ → Option (List ℕ)) (told : AreTold files call.answers) where
+    told_accepted : AreAccepted (by_answers call.answers) words → AreAccepted (by_files files) words
+    told_accepted is = of-accepted (by_answers call.answers) (by_files files) (by-told files call.answers told) words is
 
-    told_refusal : (r : Refusal) → IsRefusal (by_answers answers) words r → IsRefusal (by_files files) words r
-    told_refusal r is = of-refusal (by_answers answers) (by_files files) (by-told files answers told) words r is
+    told_refusal : (r : Refusal) → IsRefusal (by_answers call.answers) words r → IsRefusal (by_files files) words r
+    told_refusal r is = of-refusal (by_answers call.answers) (by_files files) (by-told files call.answers told) words r is
 
-    told_large : IsLargeRun (by_answers answers) words → IsLargeRun (by_files files) words
+    told_large : IsLargeRun (by_answers call.answers) words → IsLargeRun (by_files files) words
     told_large is = record {
-      name = is.name;
+      told = is.told;
+      order = is.order;
       command = is.command;
-      flow = is.flow;
-      accepted = of-run (by_answers answers) (by_files files) (by-told files answers told) is.name is.flow is.accepted;
+      job = is.job;
+      accepted = of-run-job (by_answers call.answers) (by_files files) (by-told files call.answers told) is.told.app is.told.script is.told.settings is.job is.accepted;
       large = is.large;
     }
 
     large_accepted : IsLargeRun (by_files files) words → AreAccepted (by_files files) words
-    large_accepted is = record { action = Sim; name = is.name; command = is.command; files = (is.flow, is.accepted) }
+    large_accepted is = record { command = Sim is.told.app is.told.script is.told.settings is.order; words_are = is.command; files = (is.job, is.accepted) }
 
-    refused_by_cause : (end : Result ⊤ Stop) (r : Refusal) → IsRefusal (by_files files) words r → HasCause (by_answers answers) words folder store.rose output.rose end → HasRefused folder r end
+    refused_by_cause : (end : Result ⊤ Stop) (r : Refusal) → IsRefusal (by_files files) words r → HasCause (by_answers call.answers) words call.folder call.store.rose call.output.rose end → HasRefused call.folder r end
     refused_by_cause (Ok v) r is cause = accepted-or-refused files words r (told_accepted cause) is
     refused_by_cause (Err stop) r is cause =
-        caused_weaker (ending_causes (by_answers answers) words folder store.rose output.rose) (record no_causes { refuses = λ found. found ≡ r; unread = λ name. folder }) stop
+        caused_weaker (ending_causes (by_answers call.answers) words call.folder call.store.rose call.output.rose) (record no_causes { refuses = λ found. found ≡ r; unread = λ name. call.folder }) stop
         (record {
           refuses = λ found refused. refusal-unique files words found r (told_refusal found refused) is;
           unread = λ name rose. rose;
@@ -181,13 +239,13 @@ module _ (words : List (List ℕ)) (answers : List Answer) (folder : Type 0) (st
         }) cause
 
     -- what is refused first is refused
-    pub refused-of : (end : Result ⊤ Stop) → HasEnded words answers folder store output end → (r : Refusal) → IsRefusal (by_files files) words r → HasRefused folder r end
+    pub refused-of : (end : Result ⊤ Stop) → HasEnded words call end → (r : Refusal) → IsRefusal (by_files files) words r → HasRefused call.folder r end
     refused-of end ended r is = refused_by_cause end r is (end_cause end ended)
 
-    complete_by_cause : (end : Result ⊤ Stop) → AreAccepted (by_files files) words → (folder → ⊥) → (store.rose → ⊥) → (output.rose → ⊥) → HasCause (by_answers answers) words folder store.rose output.rose end → IsComplete (IsLargeRun (by_files files) words) end
+    complete_by_cause : (end : Result ⊤ Stop) → AreAccepted (by_files files) words → (call.folder → ⊥) → (call.store.rose → ⊥) → (call.output.rose → ⊥) → HasCause (by_answers call.answers) words call.folder call.store.rose call.output.rose end → IsComplete (IsLargeRun (by_files files) words) end
     complete_by_cause (Ok v) are f s o cause = tt
     complete_by_cause (Err stop) are f s o cause =
-        caused_weaker (ending_causes (by_answers answers) words folder store.rose output.rose) (record no_causes { large = IsLargeRun (by_files files) words }) stop
+        caused_weaker (ending_causes (by_answers call.answers) words call.folder call.store.rose call.output.rose) (record no_causes { large = IsLargeRun (by_files files) words }) stop
         (record {
           refuses = λ found refused. accepted-or-refused files words found are (told_refusal found refused);
           unread = λ name rose. f rose;
@@ -197,5 +255,40 @@ module _ (words : List (List ℕ)) (answers : List Answer) (folder : Type 0) (st
         }) cause
 
     -- what is accepted is done, unless a device fails
-    pub complete-of : (end : Result ⊤ Stop) → HasEnded words answers folder store output end → AreAccepted (by_files files) words → (folder → ⊥) → (store.rose → ⊥) → (output.rose → ⊥) → IsComplete (IsLargeRun (by_files files) words) end
+    pub complete-of : (end : Result ⊤ Stop) → HasEnded words call end → AreAccepted (by_files files) words → (call.folder → ⊥) → (call.store.rose → ⊥) → (call.output.rose → ⊥) → IsComplete (IsLargeRun (by_files files) words) end
     complete-of end ended are f s o = complete_by_cause end are f s o (end_cause end ended)
+
+-- ---- what isn't built
+
+-- the commands that aren't built
+abbrev pub IsUnbuilt : Command → Type 0
+IsUnbuilt (Check app) = ⊥
+IsUnbuilt (Plan app) = ⊥
+IsUnbuilt (Sim app script settings order) = ⊥
+IsUnbuilt _ = ⊤
+
+module _ (tells : Bool) (files : List ℕ → Option (List ℕ)) (heard : List Answer → Type 0) (folder : Type 0) (store : StoreChange) (output : OutputChange) (same : store.same) (unprinted : output.after ≡ output.before) where
+  stayed_heard : HasHeard tells files heard heard (λ answers. HasStayed (call_of answers folder store output) (Err (Refused NotBuilt)) (Refused NotBuilt))
+  stayed_heard = heard_none tells files heard (λ answers. HasStayed (call_of answers folder store output) (Err (Refused NotBuilt)) (Refused NotBuilt)) (record { is = refl; unread = refl; same = same; unprinted = unprinted })
+
+  unbuilt_by : (command : Command) → IsUnbuilt command → HasHeard tells files heard heard (λ answers. HasPerformed command (call_of answers folder store output) (Err (Refused NotBuilt)))
+  unbuilt_by (Check app) is = absurd is
+  unbuilt_by (Plan app) is = absurd is
+  unbuilt_by (Sim app script settings order) is = absurd is
+  unbuilt_by (Mean app base) is = stayed_heard
+  unbuilt_by (Run app script settings threads) is = stayed_heard
+  unbuilt_by (Gen number size) is = stayed_heard
+  unbuilt_by (Group app groups script settings) is = stayed_heard
+  unbuilt_by (Trace app script settings order) is = stayed_heard
+  unbuilt_by (Audit app journal script settings) is = stayed_heard
+
+  -- a command that isn't built is told so
+  pub unbuilt_heard : (given command : Command) → given ≡ command → IsUnbuilt command → HasHeard tells files heard heard (λ answers. HasPerformed given (call_of answers folder store output) (Err (Refused NotBuilt)))
+  unbuilt_heard given command e is = subst (λ (c : Command). HasHeard tells files heard heard (λ answers. HasPerformed c (call_of answers folder store output) (Err (Refused NotBuilt)))) (sym e) (unbuilt_by command is)
+
+-- a run that is told by lent names
+pub told_by : (lent_app app : List ℕ) (lent : Option (Bor (List ℕ))) (script : Option (List ℕ)) (settings : Settings) (order : ℕ) (given : Command) (call : Call) (end : Result ⊤ Stop) → lent_app ≡ app → option_copied lent ≡ script → given ≡ Sim app script settings order → HasRunTo (record { app = lent_app; script = option_map (λ n. n.now) lent; settings = settings }) call end → HasPerformed given call end
+told_by lent_app app lent script settings order given call end same copied is ran =
+    subst (λ (c : Command). HasPerformed c call end) (sym is)
+    (subst (λ (s : Option (List ℕ)). HasRunTo (record { app = app; script = s; settings = settings }) call end) copied
+    (subst (λ (a : List ℕ). HasRunTo (record { app = a; script = option_map (λ n. n.now) lent; settings = settings }) call end) same ran))

@@ -1,4 +1,5 @@
 pub mod Acting
 pub mod Printing
+pub mod Runnable
 pub mod Running
 pub mod Storing

@@ -4,7 +4,11 @@ use Rattle.std.specs.Prelude.{Result, Ok, Err, ⊤}
 use Rattle.apx_cause.specs.Cause.{Rose}
 use Rattle.apx_tuple.specs.declared.tuple.Tuple.{Tuple}
 use Rattle.apx_device.specs.Out.{GotFront}
-use Rattle.apx_pass.specs.Pass.{Dataflow, windows, mean}
+use Rattle.apx_pass.specs.Pass.{windows, mean}
+use Rattle.apx_pass.specs.Graph.{Node}
+use Rattle.apx_pass.specs.Groups.{Input}
+use Rattle.apx_mean.specs.Passing.{dataflow_of}
+use Rattle.apx_job.specs.Job.{Job}
 use Rattle.apx_pass.specs.Texts.{windows_text}
 use Rattle.apx_load.specs.declared.stop.Stop.{Stop}
 use Rattle.apx_load.specs.Stops.{IsCaused, no_causes}
@@ -27,21 +31,25 @@ print-cause part store output stop longer is =
 pub Rose-later : (before mid now : ℕ) → before ≤ mid → Rose mid now → Rose before now
 Rose-later before mid now later rose = omega (arith, rose)
 
-module _ (flow : Dataflow) (store : StoreChange) (output : OutputChange) (mid : List (List Tuple)) (n : ℕ) (count : n ≡ windows flow) (last : store.last_after ≡ max store.last_before n) (all : IsTrue store.tells → HoldsPrefix flow store.before → mid ≡ mean flow) (same : store.after ≡ mid) where
-  has_stored : HasStored flow store
+-- the dataflow of a job, by its parts
+pub flow_is : (job : Job) (nodes : List Node) (inputs : List Input) → nodes ≡ job.flow.nodes → inputs ≡ job.flow.inputs → dataflow_of nodes inputs ≡ job.flow
+flow_is job nodes inputs p q = λ i. record { nodes = p i; inputs = q i }
+
+module _ (job : Job) (store : StoreChange) (output : OutputChange) (mid : List (List Tuple)) (n : ℕ) (count : n ≡ windows job.flow) (last : store.last_after ≡ max store.last_before n) (all : IsTrue store.tells → HoldsPrefix job.flow store.before → mid ≡ mean job.flow) (same : store.after ≡ mid) where
+  has_stored : HasStored job.flow store
   has_stored = record { last = last ∙ ap (max store.last_before) count; stored = λ t h. same ∙ all t h }
 
-  long : IsTrue store.tells → HoldsPrefix flow store.before → n ≡ length mid
-  long t h = count ∙ sym (length-mean_up_to flow (windows flow)) ∙ sym (ap length (all t h))
+  long : IsTrue store.tells → HoldsPrefix job.flow store.before → n ≡ length mid
+  long t h = count ∙ sym (length-mean_up_to job.flow (windows job.flow)) ∙ sym (ap length (all t h))
 
-  text-of : IsTrue store.tells → HoldsPrefix flow store.before → windows_text 1000000000 1 (take n mid) ≡ run_text flow
-  text-of t h = ap (windows_text 1000000000 1) (ap (λ k. take k mid) (long t h) ∙ take-length mid ∙ all t h)
+  text-of : IsTrue store.tells → HoldsPrefix job.flow store.before → windows_text job.settings.base 1 (take n mid) ≡ run_text job
+  text-of t h = ap (windows_text job.settings.base 1) (ap (λ k. take k mid) (long t h) ∙ take-length mid ∙ all t h)
 
-  within : IsTrue store.tells → HoldsPrefix flow store.before → n ≤ length mid
+  within : IsTrue store.tells → HoldsPrefix job.flow store.before → n ≤ length mid
   within t h = let e = long t h in omega (arith, e)
 
   -- after printing
-  pub passed-of : (part : Type 0) (r : Result ⊤ Stop) → (part → store.rose) → (IsTrue store.tells → n ≤ length mid → HasWritten output.tells (windows_text 1000000000 1 (take n mid)) r output.before output.after) → IfErr r (IsCaused (printing_causes part output.rose)) → HasPassedTo flow store output r
+  pub passed-of : (part : Type 0) (r : Result ⊤ Stop) → (part → store.rose) → (IsTrue store.tells → n ≤ length mid → HasWritten output.tells (windows_text job.settings.base 1 (take n mid)) r output.before output.after) → IfErr r (IsCaused (printing_causes part output.rose)) → HasPassedTo job store output r
   passed-of part (Ok v) longer written stop = record {
     stored = has_stored;
     printed = λ o t h. written t (within t h) o ∙ ap (λ x. output.before ++ x) (text-of t h);

@@ -2,6 +2,7 @@
 use Rattle.std.specs.Prelude.{◌≡◌, ℕ, Bool, List}
 use Rattle.apx_tuple.specs.declared.tuple.Tuple.{Tuple}
 use Rattle.apx_cause.specs.Cause.{Rose}
+use Rattle.apx_device.specs.Folder.{Answer}
 
 -- the sink's store, before and after
 pub record StoreChange : Type 1 where
@@ -51,3 +52,18 @@ output_change tells written faults old new = record {
   after = written new;
   rose = Rose (faults old) (faults new);
 }
+
+-- what a call heard of its folder, and what it did to the devices
+pub record Call : Type 1 where
+  -- the answers to its reads
+  pub answers : List Answer
+  -- the folder's count of faults rose
+  pub folder : Type 0
+  -- the sink's store
+  pub store : StoreChange
+  -- the output
+  pub output : OutputChange
+
+-- a call, by its parts
+abbrev pub call_of : List Answer → Type 0 → StoreChange → OutputChange → Call
+call_of answers folder store output = record { answers = answers; folder = folder; store = store; output = output }

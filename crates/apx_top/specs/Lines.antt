@@ -3,7 +3,7 @@ use Rattle.std.specs.Prelude.{ℕ, ◌==◌, if◌then◌else◌, length, List, 
 use Rattle.apx_load.specs.declared.refusal.LineCause.{LineCause}
 use Rattle.apx_load.specs.declared.refusal.LineCause.TheVariants.{TooMany, TooLong, BadPair}
 use Rattle.apx_load.specs.declared.refusal.Refusal.{Refusal}
-use Rattle.apx_load.specs.declared.refusal.Refusal.TheVariants.{NotACommand, NoFile, FileTooLong, NoJson, WrongShape, BrokenRule, RefusedLine}
+use Rattle.apx_load.specs.declared.refusal.Refusal.TheVariants.{NotACommand, NoFile, FileTooLong, NoJson, WrongShape, BrokenRule, RefusedLine, RefusedCommand, NotBuilt}
 use Rattle.apx_load.specs.declared.stop.Stop.{Stop}
 use Rattle.apx_load.specs.declared.stop.Stop.TheVariants.{Refused, CannotRead, StoreFailed, OutputFailed, Memory, Large}
 
@@ -16,6 +16,8 @@ refusal_status NoJson = 5
 refusal_status (WrongShape place) = 5
 refusal_status (BrokenRule code place) = 5
 refusal_status (RefusedLine file line cause) = 6
+refusal_status (RefusedCommand line why) = 7
+refusal_status NotBuilt = 1
 
 -- the exit status of a stop
 abbrev pub status_of : Stop → ℕ
@@ -36,15 +38,19 @@ cause_text TooMany = codes " refused: too many windows\n"
 abbrev pub blank_before : List ℕ → List ℕ
 blank_before place = if length place == 0 then [] else codes " "
 
--- the line that says why something was refused
+-- the line that says why something was refused; what isn't built yet is told as no command
 abbrev pub refusal_line : Refusal → List ℕ
 refusal_line NotACommand = codes "apex: not a command\n"
 refusal_line (NoFile name) = codes "apex: no file " ++ (name ++ codes "\n")
 refusal_line (FileTooLong name) = codes "apex: file too long " ++ (name ++ codes "\n")
 refusal_line NoJson = codes "apex: application refused: Syntax\n"
 refusal_line (WrongShape place) = codes "apex: application refused: Shape " ++ (place ++ codes "\n")
-refusal_line (BrokenRule code place) = codes "apex: application refused: A" ++ (decimal code ++ (blank_before place ++ (place ++ codes "\n")))
+refusal_line (BrokenRule code place) =
+    codes "apex: application refused: A" ++ (decimal code ++ (blank_before place ++ (place ++ codes "\n")))
 refusal_line (RefusedLine file line cause) = codes "apex: line " ++ (decimal line ++ (codes " of " ++ (file ++ cause_text cause)))
+refusal_line (RefusedCommand line why) =
+    codes "apex: script line " ++ (decimal line ++ (codes " refused: S" ++ (decimal why ++ codes "\n")))
+refusal_line NotBuilt = codes "apex: not a command\n"
 
 -- nothing is said of an output that failed
 abbrev pub line_of : Stop → List ℕ

@@ -1,60 +1,89 @@
 -- How the program ends, by its words and by what its folder answered.
-use Rattle.std.specs.Prelude.{◌≡◌, ℕ, ◌⊎◌, Bool, IsTrue, List, [], ◌++◌, length, Some, None, Result, Ok, Err, codes, ⊤}
+use Rattle.std.specs.Prelude.{◌≡◌, ℕ, ◌⊎◌, true, IsTrue, List, [], ◌++◌, length, Some, None, is_some, Result, Ok, Err, codes, ⊤}
 use Rattle.apx_device.specs.Folder.{Answer}
 use Rattle.apx_device.specs.Out.{GotFront}
 use Rattle.apx_pass.specs.Graph.{Node}
 use Rattle.apx_pass.specs.Large.{IsLargeDataflow}
-use Rattle.apx_pass.specs.Pass.{Dataflow}
 use Rattle.apx_load.specs.declared.stop.Stop.{Stop}
-use Rattle.apx_load.specs.declared.stop.Stop.TheVariants.{Refused, OutputFailed}
+use Rattle.apx_load.specs.declared.stop.Stop.TheVariants.{Refused, OutputFailed, Memory}
 use Rattle.apx_load.specs.declared.refusal.Refusal.{Refusal}
-use Rattle.apx_load.specs.declared.refusal.Refusal.TheVariants.{NotACommand}
-use Rattle.apx_load.specs.declared.words.Action.TheVariants.{Check, Sim}
-use Rattle.apx_load.specs.Refusals.{Reading, by_answers, IsApplication, IsApplicationRefusal, IsAcceptedRun}
+use Rattle.apx_load.specs.declared.refusal.Refusal.TheVariants.{NotACommand, NotBuilt}
+use Rattle.apx_cmd.specs.declared.commands.Command.{Command}
+use Rattle.apx_cmd.specs.declared.commands.Command.TheVariants.{Check, Plan, Sim}
+use Rattle.apx_cmd.specs.Commands.{command_of}
+use Rattle.apx_job.specs.Job.{Job}
+use Rattle.apx_plan.specs.Plan.{plan_text}
+use Rattle.apx_load.specs.Refusals.{Reading, by_answers, IsApplication, IsApplicationRefusal}
+use Rattle.apx_load.specs.Jobs.{IsRunJob}
 use Rattle.apx_load.specs.Stops.{Causes, IsCaused, no_causes, reading_causes}
-use Rattle.apx_load.specs.Words.{command_of}
-use Rattle.apx_top.specs.Changes.{StoreChange, OutputChange}
+use Rattle.apx_top.specs.Changes.{OutputChange, Call}
 use Rattle.apx_top.specs.Lines.{status_of, line_of}
-use Rattle.apx_top.specs.Run.{HasRun, HasRunTo}
+use Rattle.apx_top.specs.Run.{Told, HasRunTo}
 
--- ---- judging an application
+-- ---- judging an application, and planning it
 
 -- what stops it: a refusal of its file, a file that can't be read, and an output that failed, once it was accepted
-abbrev pub checking_causes : List ℕ → List Answer → (folder output : Type 0) → Causes
-checking_causes name answers folder output =
+abbrev pub judging_causes : List ℕ → List Answer → (folder output : Type 0) → Causes
+judging_causes name answers folder output =
     record (reading_causes (IsApplicationRefusal (by_answers answers) name) answers folder)
     { output = output × ((nodes : List Node) × IsApplication (by_answers answers) name nodes) }
 
--- what a stop leaves of an output: a front of the text where the output failed, and else nothing
-abbrev pub LeavesOf : List ℕ → OutputChange → Stop → Type 0
-LeavesOf text output OutputFailed = IsTrue output.tells → GotFront text output.before output.after
-LeavesOf text output _ = output.after ≡ output.before
+-- what a stop leaves of an output: a front of the text of the application where the output failed, and else nothing
+abbrev pub LeavesOf : (List Node → List ℕ) → (List Node → Type 0) → OutputChange → Stop → Type 0
+LeavesOf text application output OutputFailed =
+    IsTrue output.tells → (nodes : List Node) × application nodes × GotFront (text nodes) output.before output.after
+LeavesOf text application output _ = output.after ≡ output.before
 
--- how judging an application ends: it is accepted and the output got `ok`, or it stopped and left no more than its stop says
-abbrev pub HasCheckedTo : List ℕ → List Answer → Type 0 → OutputChange → Result ⊤ Stop → Type 0
-HasCheckedTo name answers folder output (Ok _) =
-    ((nodes : List Node) × IsApplication (by_answers answers) name nodes)
-    × (IsTrue output.tells → output.after ≡ output.before ++ codes "ok\n")
-HasCheckedTo name answers folder output (Err stop) =
-    IsCaused (checking_causes name answers folder output.rose) stop × LeavesOf (codes "ok\n") output stop
+-- How telling something of an application ends: it is accepted and the output got its text, or it stopped and left no more
+-- than its stop says.
+abbrev pub HasToldTo : (List Node → List ℕ) → List ℕ → List Answer → Type 0 → OutputChange → Result ⊤ Stop → Type 0
+HasToldTo text name answers folder output (Ok _) =
+    (nodes : List Node) × IsApplication (by_answers answers) name nodes
+    × (IsTrue output.tells → output.after ≡ output.before ++ text nodes)
+HasToldTo text name answers folder output (Err stop) =
+    IsCaused (judging_causes name answers folder output.rose) stop
+    × LeavesOf text (IsApplication (by_answers answers) name) output stop
+
+-- what is told of an application that is judged
+abbrev pub ok_text : List Node → List ℕ
+ok_text nodes = codes "ok\n"
 
 -- ---- all commands
 
--- How the program ends: the words are no command, and nothing is read or touched; or an application is judged by one read,
--- and the store isn't touched; or it is run.
-pub data HasEnded (words : List (List ℕ)) (answers : List Answer) (folder : Type 0) (store : StoreChange) (output : OutputChange) (end : Result ⊤ Stop) : Type 0 where
-  no_command :
-      command_of words ≡ None → end ≡ Err (Refused NotACommand) →
-      answers ≡ [] → store.same → output.after ≡ output.before →
-      HasEnded words answers folder store output end
-  checked :
-      (name : List ℕ) → command_of words ≡ Some (Check, name) →
-      length answers ≡ 1 → store.same → HasCheckedTo name answers folder output end →
-      HasEnded words answers folder store output end
-  ran :
-      (name : List ℕ) → command_of words ≡ Some (Sim, name) →
-      HasRunTo name answers folder store output end →
-      HasEnded words answers folder store output end
+-- it ended with this stop, without a read, and touched nothing
+pub record HasStayed (call : Call) (end : Result ⊤ Stop) (stop : Stop) : Type 0 where
+  -- it stopped so
+  pub is : end ≡ Err stop
+  -- nothing was read
+  pub unread : call.answers ≡ []
+  -- the store is, as a value, the one that it was
+  pub same : call.store.same
+  -- nothing was printed
+  pub unprinted : call.output.after ≡ call.output.before
+
+-- one file was read, the store wasn't touched, and this was told of the application
+pub record HasTold (text : List Node → List ℕ) (name : List ℕ) (call : Call) (end : Result ⊤ Stop) : Type 0 where
+  -- one file was read
+  pub one : length call.answers ≡ 1
+  -- the store is, as a value, the one that it was
+  pub same : call.store.same
+  -- how it ended
+  pub told : HasToldTo text name call.answers call.folder call.output end
+
+-- How a command ends: `check` and `plan` tell something of an application, `sim` runs a job, and the others aren't built yet.
+abbrev pub HasPerformed : Command → Call → Result ⊤ Stop → Type 0
+HasPerformed (Check app) call end = HasTold ok_text app call end
+HasPerformed (Plan app) call end = HasTold plan_text app call end
+HasPerformed (Sim app script settings order) call end =
+    HasRunTo (record { app = app; script = script; settings = settings }) call end
+HasPerformed _ call end = HasStayed call end (Refused NotBuilt)
+
+-- How the program ends: the words are no command, or there was no memory to read them, and nothing is read or touched; or
+-- their command was performed.
+pub data HasEnded (words : List (List ℕ)) (call : Call) (end : Result ⊤ Stop) : Type 0 where
+  no_command : command_of words ≡ None → HasStayed call end (Refused NotACommand) → HasEnded words call end
+  unread : is_some (command_of words) ≡ true → HasStayed call end Memory → HasEnded words call end
+  performed : (command : Command) → command_of words ≡ Some command → HasPerformed command call end → HasEnded words call end
 
 -- ---- what is said of files that the folder tells
 
@@ -66,16 +95,18 @@ HasRefused folder refusal (Err stop) =
 
 -- the words are those of a run whose dataflow is too large
 pub record IsLargeRun (reading : Reading) (words : List (List ℕ)) : Type 0 where
-  -- the application's file
-  pub name : List ℕ
-  -- the words name a run of it
-  pub command : command_of words ≡ Some (Sim, name)
-  -- its dataflow
-  pub flow : Dataflow
+  -- what the run is told
+  pub told : Told
+  -- the number that picks its order
+  pub order : ℕ
+  -- the words are these
+  pub command : command_of words ≡ Some (Sim told.app told.script told.settings order)
+  -- its job
+  pub job : Job
   -- it is that of the files
-  pub accepted : IsAcceptedRun reading name flow
-  -- it is too large
-  pub large : IsLargeDataflow flow
+  pub accepted : IsRunJob reading told.app told.script told.settings job
+  -- its dataflow is too large
+  pub large : IsLargeDataflow job.flow
 
 -- how it ends where words and files are accepted and no device fails: it is done, too large, or short of memory
 abbrev pub IsComplete : Type 0 → Result ⊤ Stop → Type 0

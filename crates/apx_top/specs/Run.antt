@@ -1,18 +1,20 @@
 -- What a run leaves behind it.
-use Rattle.std.specs.Prelude.{◌≡◌, ◌⊎◌, ℕ, max, IsTrue, List, ◌++◌, Result, Ok, Err, ⊤}
-use Rattle.apx_device.specs.Folder.{Answer}
+use Rattle.std.specs.Prelude.{◌≡◌, ◌⊎◌, ℕ, max, IsTrue, List, ◌++◌, Option, Result, Ok, Err, ⊤}
 use Rattle.apx_device.specs.Out.{GotFront}
 use Rattle.apx_pass.specs.Pass.{Dataflow, windows, mean}
 use Rattle.apx_pass.specs.Texts.{windows_text}
+use Rattle.apx_script.specs.declared.settings.Settings.{Settings}
+use Rattle.apx_job.specs.Job.{Job}
 use Rattle.apx_load.specs.declared.stop.Stop.{Stop}
-use Rattle.apx_load.specs.Refusals.{by_answers, IsAcceptedRun, IsRunRefusal}
+use Rattle.apx_load.specs.Refusals.{by_answers}
+use Rattle.apx_load.specs.Jobs.{IsRunJob, IsRunJobRefusal}
 use Rattle.apx_load.specs.Stops.{Causes, IsCaused, no_causes, reading_causes}
-use Rattle.apx_top.specs.Changes.{StoreChange, OutputChange}
+use Rattle.apx_top.specs.Changes.{StoreChange, OutputChange, Call}
 use Rattle.apx_top.specs.Store.{HoldsPrefix, storing_causes}
 
--- the texts of the dataflow's windows
-abbrev pub run_text : Dataflow → List ℕ
-run_text flow = windows_text 1000000000 1 (mean flow)
+-- the texts of the job's windows, over its base
+abbrev pub run_text : Job → List ℕ
+run_text job = windows_text job.settings.base 1 (mean job.flow)
 
 -- All windows of the dataflow are stored, where the store began with the first of them.
 pub record HasStored (flow : Dataflow) (store : StoreChange) : Type 0 where
@@ -22,13 +24,13 @@ pub record HasStored (flow : Dataflow) (store : StoreChange) : Type 0 where
   pub stored : IsTrue store.tells → HoldsPrefix flow store.before → store.after ≡ mean flow
 
 -- a run that was done: its windows are stored and printed
-pub record HasRun (flow : Dataflow) (store : StoreChange) (output : OutputChange) : Type 0 where
+pub record HasRun (job : Job) (store : StoreChange) (output : OutputChange) : Type 0 where
   -- all are stored
-  pub stored : HasStored flow store
+  pub stored : HasStored job.flow store
   -- what was printed is what was stored
   pub printed :
-      IsTrue output.tells → IsTrue store.tells → HoldsPrefix flow store.before →
-      output.after ≡ output.before ++ run_text flow
+      IsTrue output.tells → IsTrue store.tells → HoldsPrefix job.flow store.before →
+      output.after ≡ output.before ++ run_text job
 
 -- what stops printing: a fault of the store or of the output
 abbrev pub printing_causes : (store output : Type 0) → Causes
@@ -44,29 +46,44 @@ pub record HasStoredSome (flow : Dataflow) (store : StoreChange) (output : Outpu
   pub unprinted : output.after ≡ output.before
 
 -- A run that stopped while it printed: all is stored, and a front of the text is printed.
-pub record HasPrintedSome (flow : Dataflow) (store : StoreChange) (output : OutputChange) (stop : Stop) : Type 0 where
+pub record HasPrintedSome (job : Job) (store : StoreChange) (output : OutputChange) (stop : Stop) : Type 0 where
   -- why it stopped
   pub cause : IsCaused (printing_causes store.rose output.rose) stop
   -- all is stored
-  pub stored : HasStored flow store
+  pub stored : HasStored job.flow store
   -- what is printed is a front of what is stored
   pub printed :
-      IsTrue output.tells → IsTrue store.tells → HoldsPrefix flow store.before →
-      GotFront (run_text flow) output.before output.after
+      IsTrue output.tells → IsTrue store.tells → HoldsPrefix job.flow store.before →
+      GotFront (run_text job) output.before output.after
 
--- how storing and printing a dataflow's windows ends
-abbrev pub HasPassedTo : Dataflow → StoreChange → OutputChange → Result ⊤ Stop → Type 0
-HasPassedTo flow store output (Ok _) = HasRun flow store output
-HasPassedTo flow store output (Err stop) = HasStoredSome flow store output stop ⊎ HasPrintedSome flow store output stop
+-- how storing and printing a job's windows ends
+abbrev pub HasPassedTo : Job → StoreChange → OutputChange → Result ⊤ Stop → Type 0
+HasPassedTo job store output (Ok _) = HasRun job store output
+HasPassedTo job store output (Err stop) = HasStoredSome job.flow store output stop ⊎ HasPrintedSome job store output stop
 
--- How a run ends: it stopped at its files, and touched nothing; or it stored and printed the windows of the dataflow of the
--- files that were read, as far as it came.
-pub data HasRunTo (name : List ℕ) (answers : List Answer) (folder : Type 0) (store : StoreChange) (output : OutputChange) (end : Result ⊤ Stop) : Type 0 where
+-- what a run is told: the application's file, the script's where it has one, and settings
+pub record Told : Type 0 where
+  -- the application's file
+  pub app : List ℕ
+  -- the script's file
+  pub script : Option (List ℕ)
+  -- the settings
+  pub settings : Settings
+
+-- what stops reading its files: what is refused of them, and a file that can't be read
+abbrev pub run_reading_causes : Told → Call → Causes
+run_reading_causes told call =
+    reading_causes (IsRunJobRefusal (by_answers call.answers) told.app told.script told.settings) call.answers call.folder
+
+-- How a run ends: it stopped at its files, and touched nothing; or it stored and printed the windows of the job of the files
+-- that were read, as far as it came.
+pub data HasRunTo (told : Told) (call : Call) (end : Result ⊤ Stop) : Type 0 where
   stopped_reading :
       (stop : Stop) → end ≡ Err stop →
-      IsCaused (reading_causes (IsRunRefusal (by_answers answers) name) answers folder) stop →
-      store.same → output.after ≡ output.before →
-      HasRunTo name answers folder store output end
+      IsCaused (run_reading_causes told call) stop →
+      call.store.same → call.output.after ≡ call.output.before →
+      HasRunTo told call end
   passed :
-      (flow : Dataflow) → IsAcceptedRun (by_answers answers) name flow → HasPassedTo flow store output end →
-      HasRunTo name answers folder store output end
+      (job : Job) → IsRunJob (by_answers call.answers) told.app told.script told.settings job →
+      HasPassedTo job call.store call.output end →
+      HasRunTo told call end

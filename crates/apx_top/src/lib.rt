@@ -10,6 +10,7 @@ mod print;
 mod say;
 mod sim;
 mod store;
+mod tell;
 #[cfg(test)]
 mod tests;
 mod write;

@@ -1,18 +1,21 @@
 //! The whole program on one thread, from its words to its status.
-ghost use Rattle.std.specs.Prelude.{◌≡◌, ◌≤◌, ◌↔◌, None, Err, length, map, string_bytes, IsTrue};
+ghost use Rattle.std.specs.Prelude.{◌≡◌, ◌≤◌, ◌↔◌, None, Err, map, string_bytes, IsTrue};
 ghost use Rattle.apx_cause.specs.Cause.{Rose};
 ghost use Rattle.apx_load.specs.declared.refusal.Refusal.{Refusal};
 ghost use Rattle.apx_load.specs.Hearing.{HasHeard};
-ghost use Rattle.apx_load.specs.Refusals.{by_files, AreAccepted, IsRefusal};
-ghost use Rattle.apx_load.specs.Words.{command_of};
-ghost use Rattle.apx_top.specs.Changes.{store_change, output_change};
-ghost use Rattle.apx_top.specs.Plain.{HasCheckedTo, HasEnded, HasRefused, IsLargeRun, IsComplete, status_after, line_after, HasSaid};
+ghost use Rattle.apx_load.specs.Refusals.{by_files};
+ghost use Rattle.apx_load.specs.First.{AreAccepted, IsRefusal};
+ghost use Rattle.apx_cmd.specs.Bounds.{IsBounded};
+ghost use Rattle.apx_cmd.specs.Commands.{command_of};
+ghost use Rattle.apx_top.specs.Changes.{call_of, store_change, output_change};
+ghost use Rattle.apx_top.specs.Plain.{HasPerformed, HasEnded, HasRefused, IsLargeRun, IsComplete, status_after, line_after, HasSaid};
 
 use crate::say::{say, status};
 use crate::sim::sim;
-use crate::write::write_all;
+use crate::tell::{check, plan};
+use apx_cmd::{Command, command};
 use apx_device::{Folder, Keeper, Out};
-use apx_load::{Action, Refusal, Stop, application, command};
+use apx_load::{Refusal, Stop};
 use std::alloc::Global;
 
 /// The devices that a run takes over.
@@ -31,22 +34,45 @@ pub struct Ended<K> {
     pub devices: Devices<K>,
 }
 
-/// Judges an application, and writes `ok` where it is accepted.
-fn check<F: Folder, O: Out>(
+/// Performs a command.
+fn perform<F: Folder, K: Keeper, O: Out>(
     alloc: Global,
+    command: &Command,
     files: &mut F,
-    name: &str,
+    keeper: &mut K,
     out: &mut O,
 ) -> Result<(), Stop>
+    requires bounded { IsBounded command.now }
+    requires sound { IsTrue (K.sound keeper.old) }
     ensures told { F.told files.new ≡ F.told files.old }
     ensures heard { HasHeard F.tells (F.told files.old) (F.heard files.old) (F.heard files.new) (λ answers.
-        (length answers ≡ 1) × HasCheckedTo name.now answers (Rose (F.faults files.old) (F.faults files.new))
-        (output_change O.tells O.written O.faults out.old out.new) result) }
+        HasPerformed command.now (call_of answers (Rose (F.faults files.old) (F.faults files.new))
+        (store_change K.tells K.stored K.last K.faults keeper.old keeper.new)
+        (output_change O.tells O.written O.faults out.old out.new)) result) }
 {
-    application(alloc, files, name)?;
-    match write_all(out, b"ok\n") {
-        Ok(()) => Ok(()),
-        Err(_) => Err(Stop::OutputFailed),
+    match command {
+        Command::Check { app } => check(alloc, files, app.text(), out),
+        Command::Plan { app } => plan(alloc, files, app.text(), out),
+        Command::Sim {
+            app,
+            script,
+            settings,
+            order: _,
+        } => sim(
+            alloc,
+            files,
+            app.text(),
+            script.as_ref(),
+            *settings,
+            keeper,
+            out,
+        ),
+        Command::Mean { .. } => Err(Stop::Refused(Refusal::NotBuilt)),
+        Command::Run { .. } => Err(Stop::Refused(Refusal::NotBuilt)),
+        Command::Gen { .. } => Err(Stop::Refused(Refusal::NotBuilt)),
+        Command::Group { .. } => Err(Stop::Refused(Refusal::NotBuilt)),
+        Command::Trace { .. } => Err(Stop::Refused(Refusal::NotBuilt)),
+        Command::Audit { .. } => Err(Stop::Refused(Refusal::NotBuilt)),
     }
 }
 
@@ -61,25 +87,24 @@ fn act<F: Folder, K: Keeper, O: Out>(
     requires { IsTrue (K.sound keeper.old) }
     ensures told { F.told files.new ≡ F.told files.old }
     ensures heard { HasHeard F.tells (F.told files.old) (F.heard files.old) (F.heard files.new) (λ answers.
-        HasEnded (map string_bytes words.now) answers (Rose (F.faults files.old) (F.faults files.new))
+        HasEnded (map string_bytes words.now) (call_of answers (Rose (F.faults files.old) (F.faults files.new))
         (store_change K.tells K.stored K.last K.faults keeper.old keeper.new)
-        (output_change O.tells O.written O.faults out.old out.new) result) }
+        (output_change O.tells O.written O.faults out.old out.new)) result) }
 {
-    match command(words) {
-        None => Err(Stop::Refused(Refusal::NotACommand)),
-        Some((Action::Check, name)) => check(alloc, files, name, out),
-        Some((Action::Sim, name)) => sim(alloc, files, name, keeper, out),
-    }
+    let command = command(alloc, words)?;
+    perform(alloc, &command, files, keeper, out)
 }
 
-/// Does what the words ask for: `check APP` judges an application, and `sim APP` runs it on one thread.
+/// Does what the words ask for: `check APP` judges an application, `plan APP` prints its operators and their
+/// partitions, and `sim APP` with its options runs it on one thread. The other commands aren't built yet,
+/// and no more is a run whose script commands something.
 ///
 /// A run stores each window's rows in one commit and then prints them all, a line for each row. Its
-/// status is 0, or else that of the first thing that stopped it: 1 for words that are no command, 2 for a
-/// file that can't be read, 3 for one that isn't there, 4 for one too long, 5 for an application and 6 for
-/// a line that is refused, 9 for the sink's store, 12 for the output, 13 for want of memory, and 19 for a
-/// bag or a state that is too large. A line of the error output then names it, as far as that output
-/// takes it, except for a fault of the output.
+/// status is 0, or else that of the first thing that stopped it: 1 for words that are no command, or that
+/// ask for what isn't built, 2 for a file that can't be read, 3 for one that isn't there, 4 for one too long,
+/// 5 for an application, 6 for a line of an input and 7 for a line of a script that is refused, 9 for the
+/// sink's store, 12 for the output, 13 for want of memory, and 19 for a bag or a state that is too large. A
+/// line of the error output then names it, as far as that output takes it, except for a fault of the output.
 pub fn apex_plain<F: Folder, K: Keeper, O: Out, E: Out>(
     alloc: Global,
     words: &[String],
@@ -92,9 +117,9 @@ pub fn apex_plain<F: Folder, K: Keeper, O: Out, E: Out>(
     // Whatever its folder answers, it ends in a way that these answers allow: done, or stopped for a cause, with the store
     // and the output left as that stop leaves them.
     ensures heard { HasHeard F.tells (F.told files.old) (F.heard files.old) (F.heard files.new) (λ answers.
-        HasEnded (map string_bytes words.now) answers (Rose (F.faults files.old) (F.faults files.new))
+        HasEnded (map string_bytes words.now) (call_of answers (Rose (F.faults files.old) (F.faults files.new))
         (store_change K.tells K.stored K.last K.faults devices.keeper result.devices.keeper)
-        (output_change O.tells O.written O.faults out.old out.new) result.end) }
+        (output_change O.tells O.written O.faults out.old out.new)) result.end) }
 
     // Words that are no command are told so, and no others.
     ensures command { (command_of (map string_bytes words.now) ≡ None) ↔ (result.end ≡ Err (Stop.Refused Refusal.NotACommand)) }

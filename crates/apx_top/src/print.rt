@@ -14,19 +14,23 @@ use apx_report::window_text;
 use apx_tuple::Tuple;
 use std::alloc::Global;
 
-/// The base second of the windows' identifiers.
-const BASE: u32 = 1_000_000_000;
-
-/// Writes a window's text.
-fn write_window<O: Out>(alloc: Global, window: u32, rows: &[Tuple], out: &mut O) -> Result<(), Stop>
+/// Writes a window's text, with identifiers over a base second.
+fn write_window<O: Out>(
+    alloc: Global,
+    base: u32,
+    window: u32,
+    rows: &[Tuple],
+    out: &mut O,
+) -> Result<(), Stop>
+    requires base { base ≤ 4294959295 }
     requires low { 1 ≤ window }
     requires high { window ≤ 20000 }
-    ensures written { HasWritten O.tells (text_of 1000000000 window rows.now) result (O.written out.old) (O.written out.new) }
+    ensures written { HasWritten O.tells (text_of base window rows.now) result (O.written out.old) (O.written out.new) }
     ensures later { O.faults out.old ≤ O.faults out.new }
     ensures stop { IfErr result (IsCaused (record no_causes { output = Rose (O.faults out.old) (O.faults out.new) })) }
 {
     let mut text = Vec::new(alloc);
-    if window_text(BASE, window, rows, &mut text).is_err() {
+    if window_text(base, window, rows, &mut text).is_err() {
         return Err(Stop::Memory);
     }
     match write_all(out, &text) {
@@ -39,9 +43,11 @@ fn write_window<O: Out>(alloc: Global, window: u32, rows: &[Tuple], out: &mut O)
 fn print_window<K: Keeper, O: Out>(
     alloc: Global,
     keeper: &mut K,
+    base: u32,
     window: u32,
     out: &mut O,
 ) -> Result<(), Stop>
+    requires base { base ≤ 4294959295 }
     requires sound { IsTrue (K.sound keeper.old) }
     requires low { 1 ≤ window }
     requires high { window ≤ 20000 }
@@ -50,14 +56,14 @@ fn print_window<K: Keeper, O: Out>(
     ensures last { K.last keeper.new ≡ K.last keeper.old }
     ensures sound { OnOk result (IsTrue (K.sound keeper.new)) }
     ensures written { IsTrue K.tells → (rows : List Tuple) → slice_get (K.stored keeper.old) (window - 1) ≡ Some rows →
-        HasWritten O.tells (text_of 1000000000 window rows) result (O.written out.old) (O.written out.new) }
+        HasWritten O.tells (text_of base window rows) result (O.written out.old) (O.written out.new) }
     ensures store_later { K.faults keeper.old ≤ K.faults keeper.new }
     ensures later { O.faults out.old ≤ O.faults out.new }
     ensures stop { IfErr result (IsCaused
         (printing_causes (Rose (K.faults keeper.old) (K.faults keeper.new)) (Rose (O.faults out.old) (O.faults out.new)))) }
 {
     match keeper.rows(alloc, window) {
-        Ok(rows) => write_window(alloc, window, &rows, out),
+        Ok(rows) => write_window(alloc, base, window, &rows, out),
         Err(KeepRefusal::Failed) => Err(Stop::StoreFailed),
         Err(KeepRefusal::Memory) => Err(Stop::Memory),
     }
@@ -67,16 +73,18 @@ fn print_window<K: Keeper, O: Out>(
 pub(crate) fn print_all<K: Keeper, O: Out>(
     alloc: Global,
     keeper: &mut K,
+    base: u32,
     windows: u32,
     out: &mut O,
 ) -> Result<(), Stop>
+    requires base { base ≤ 4294959295 }
     requires sound { IsTrue (K.sound keeper.old) }
     requires few { windows ≤ 20000 }
     requires there { windows ≤ K.last keeper.old }
     ensures stored { K.stored keeper.new ≡ K.stored keeper.old }
     ensures last { K.last keeper.new ≡ K.last keeper.old }
     ensures written { IsTrue K.tells → windows ≤ length (K.stored keeper.old) →
-        HasWritten O.tells (windows_text 1000000000 1 (take windows (K.stored keeper.old))) result
+        HasWritten O.tells (windows_text base 1 (take windows (K.stored keeper.old))) result
         (O.written out.old) (O.written out.new) }
     ensures store_later { K.faults keeper.old ≤ K.faults keeper.new }
     ensures later { O.faults out.old ≤ O.faults out.new }
@@ -84,7 +92,7 @@ pub(crate) fn print_all<K: Keeper, O: Out>(
         (printing_causes (Rose (K.faults keeper.old) (K.faults keeper.new)) (Rose (O.faults out.old) (O.faults out.new)))) }
 {
     for done in 0..windows {
-        print_window(alloc, keeper, done + 1, out)?;
+        print_window(alloc, keeper, base, done + 1, out)?;
     }
     Ok(())
 }

@@ -28,11 +28,12 @@ fn refusal_status(refusal: &Refusal) -> u8
     ensures { result ≡ refusal_status refusal.now }
 {
     match refusal {
-        Refusal::NotACommand => 1,
+        Refusal::NotACommand | Refusal::NotBuilt => 1,
         Refusal::NoFile { .. } => 3,
         Refusal::FileTooLong { .. } => 4,
         Refusal::NoJson | Refusal::WrongShape { .. } | Refusal::BrokenRule { .. } => 5,
         Refusal::RefusedLine { .. } => 6,
+        Refusal::RefusedCommand { .. } => 7,
     }
 }
 
@@ -59,12 +60,14 @@ fn say_refusal<E: Out>(err: &mut E, refusal: &Refusal) -> Result<(), Failed>
 {
     match refusal {
         Refusal::NotACommand => write_all(err, b"apex: not a command\n"),
+        Refusal::NotBuilt => write_all(err, b"apex: not a command\n"),
         Refusal::NoFile { name } => say_name(err, b"apex: no file ", name),
         Refusal::FileTooLong { name } => say_name(err, b"apex: file too long ", name),
         Refusal::NoJson => write_all(err, b"apex: application refused: Syntax\n"),
         Refusal::WrongShape { place } => say_name(err, b"apex: application refused: Shape ", place),
         Refusal::BrokenRule { code, place } => say_rule(err, *code, place),
         Refusal::RefusedLine { file, line, cause } => say_line(err, file, *line, *cause),
+        Refusal::RefusedCommand { line, why } => say_command(err, *line, *why),
     }
 }
 
@@ -79,7 +82,9 @@ fn say_name<E: Out>(err: &mut E, what: &[u8], name: &Name) -> Result<(), Failed>
 
 /// Writes which rule of applications was broken, and where.
 fn say_rule<E: Out>(err: &mut E, code: u8, place: &Name) -> Result<(), Failed>
-    ensures written { HasWritten E.tells (codes "apex: application refused: A" ++ (decimal code ++ (blank_before place.now ++ (place.now ++ codes "\n")))) result (E.written err.old) (E.written err.new) }
+    ensures written { HasWritten E.tells
+        (codes "apex: application refused: A" ++ (decimal code ++ (blank_before place.now ++ (place.now ++ codes "\n"))))
+        result (E.written err.old) (E.written err.new) }
     ensures later { E.faults err.old ≤ E.faults err.new }
     ensures cause { IsErr result → Rose (E.faults err.old) (E.faults err.new) }
 {
@@ -97,6 +102,20 @@ fn say_rule<E: Out>(err: &mut E, code: u8, place: &Name) -> Result<(), Failed>
     )
 }
 
+/// Writes which line of the script was refused, and why.
+fn say_command<E: Out>(err: &mut E, line: u64, why: u8) -> Result<(), Failed>
+    ensures written { HasWritten E.tells
+        (codes "apex: script line " ++ (decimal line ++ (codes " refused: S" ++ (decimal why ++ codes "\n"))))
+        result (E.written err.old) (E.written err.new) }
+    ensures later { E.faults err.old ≤ E.faults err.new }
+    ensures cause { IsErr result → Rose (E.faults err.old) (E.faults err.new) }
+{
+    let (mut first, mut second) = (Buffer::new(), Buffer::new());
+    let line = first.format(line).as_bytes();
+    let why = second.format(why).as_bytes();
+    write_five(err, b"apex: script line ", line, b" refused: S", why, b"\n")
+}
+
 fn blank_before(place: &[u8]) -> &'static [u8]
     ensures { result.now ≡ blank_before place.now }
 {
@@ -105,7 +124,9 @@ fn blank_before(place: &[u8]) -> &'static [u8]
 
 /// Writes which line of an input was refused, and why.
 fn say_line<E: Out>(err: &mut E, file: &Name, line: u64, cause: LineCause) -> Result<(), Failed>
-    ensures written { HasWritten E.tells (codes "apex: line " ++ (decimal line ++ (codes " of " ++ (file.now ++ cause_text cause)))) result (E.written err.old) (E.written err.new) }
+    ensures written { HasWritten E.tells
+        (codes "apex: line " ++ (decimal line ++ (codes " of " ++ (file.now ++ cause_text cause))))
+        result (E.written err.old) (E.written err.new) }
     ensures later { E.faults err.old ≤ E.faults err.new }
     ensures cause { IsErr result → Rose (E.faults err.old) (E.faults err.new) }
 {

@@ -3,7 +3,8 @@ ghost use Rattle.std.specs.Prelude.{IsTrue};
 
 use super::*;
 use apx_device::{
-    FailingFolder, FailingKeeper, Folder, Keeper, MemoryFolder, MemoryKeeper, MemoryOut,
+    FailingFolder, FailingKeeper, Folder, Keeper, ListedFolder, MemoryFolder, MemoryKeeper,
+    MemoryOut,
 };
 use std::alloc::{AllocError, Global};
 use std::process::Abort;
@@ -315,13 +316,20 @@ fn two_inputs_are_enriched_or_matched(rt: HostRuntime) -> Result<(), Fail> {
 
 #[test]
 fn other_words_are_no_command(rt: HostRuntime) -> Result<(), Fail> {
-    let rows: [&[&str]; 6] = [
+    let rows: [&[&str]; 12] = [
         &[],
         &["sim"],
         &["sim", "app.json", "more"],
-        &["run", "app.json"],
         &["sim", ""],
         &["check", "-app.json"],
+        &["sim", "app.json", "--base", "1", "--base", "1"],
+        // These are commands that aren't built yet.
+        &["mean", "app.json"],
+        &["run", "app.json"],
+        &["gen", "7", "1000"],
+        &["group", "app.json", "groups"],
+        &["trace", "app.json"],
+        &["audit", "app.json", "journal"],
     ];
     for given in rows {
         let left = run(
@@ -577,5 +585,124 @@ fn a_stored_window_is_printed_as_it_stands(rt: HostRuntime) -> Result<(), Fail> 
     let left = run_on(alloc, &["sim", "app.json"], &mut files, keeper, out)?;
     let text = "window 1 4294967296000000000 0\nwindow 2 4294967296000000001 1\na\t2\n";
     expect(&rt, &left, 0, text, "", "|a=2 |");
+    Ok(())
+}
+
+#[test]
+fn an_application_is_planned(rt: HostRuntime) -> Result<(), Fail> {
+    let alloc = rt.alloc();
+    let left = run(alloc, &["plan", "app.json"], &[("app.json", WORDS_COUNTED)])?;
+    let text =
+        "operator 0 lines 1 read\n  partition 0 mask 0 keys 0\noperator 1 words 1 split\n  partition 0 mask 0 keys 0\noperator 2 count 2 tally\n  partition 0 mask 1 keys 0\n  partition 1 mask 1 keys 1\noperator 3 store 1 out\n  partition 0 mask 0 keys 0\n";
+    expect(&rt, &left, 0, text, "", "");
+    let left = run(alloc, &["plan", "app.json"], &[("app.json", "{")])?;
+    expect_refused(&rt, &left, 5, "apex: application refused: Syntax\n");
+    Ok(())
+}
+
+#[test]
+fn an_application_that_is_judged_or_planned_is_read_alone(rt: HostRuntime) -> Result<(), Fail> {
+    let alloc = rt.alloc();
+    for command in ["check", "plan"] {
+        let files = folder(alloc, &[("app.json", COUNTED), ("in.txt", "a\n")])?;
+        let mut files = FailingFolder::new(files, [2].to_vec(alloc)?);
+        let keeper = MemoryKeeper::new(alloc);
+        let out = MemoryOut::new(alloc);
+        let left = run_on(alloc, &[command, "app.json"], &mut files, keeper, out)?;
+        assert_eq!(rt; (left.status, files.faults()), (0, 0));
+    }
+    Ok(())
+}
+
+/// What a run of the counting of three lines with this script leaves.
+fn scripted(alloc: Global, script: &str) -> Result<Left, Fail> {
+    let files = [
+        ("app.json", COUNTED),
+        ("in.txt", "a\nb\na\n"),
+        ("script", script),
+    ];
+    run(
+        alloc,
+        &["sim", "app.json", "--script", "script", "--checkpoint", "2"],
+        &files,
+    )
+}
+
+#[test]
+fn a_script_is_judged_behind_the_inputs(rt: HostRuntime) -> Result<(), Fail> {
+    let alloc = rt.alloc();
+    let left = scripted(alloc, "# nothing is commanded\n\n")?;
+    expect(&rt, &left, 0, COUNTED_TEXT, "", "a=1 b=1 |a=2 |");
+    for (script, status, err) in [
+        ("kill now 1 0 out\n", 7, "apex: script line 1 refused: S1\n"),
+        (
+            "\nkill done 1 0 none\n",
+            7,
+            "apex: script line 2 refused: S3\n",
+        ),
+        (
+            "kill written 1 0 tally\n",
+            7,
+            "apex: script line 1 refused: S10\n",
+        ),
+        (
+            "kill done 1 1 tally\n",
+            7,
+            "apex: script line 1 refused: S9\n",
+        ),
+        (
+            "repartition 1 2 tally\n",
+            7,
+            "apex: script line 1 refused: S5\n",
+        ),
+        // What a script commands isn't built yet.
+        ("kill done 1 0 tally\n", 1, "apex: not a command\n"),
+    ] {
+        expect_refused(&rt, &scripted(alloc, script)?, status, err);
+    }
+    let given = ["sim", "app.json", "--script", "script"];
+    let left = run(alloc, &given, &[("app.json", COUNTED)])?;
+    expect_refused(&rt, &left, 3, "apex: no file in.txt\n");
+    let left = run(alloc, &given, &[("app.json", COUNTED), ("in.txt", "a\n")])?;
+    expect_refused(&rt, &left, 3, "apex: no file script\n");
+    Ok(())
+}
+
+#[test]
+fn identifiers_begin_at_the_base(rt: HostRuntime) -> Result<(), Fail> {
+    let files = [("app.json", COUNTED), ("in.txt", "a\n")];
+    let given = ["sim", "app.json", "--order", "7", "--base", "1"];
+    let left = run(rt.alloc(), &given, &files)?;
+    expect(&rt, &left, 0, "window 1 4294967296 1\na\t1\n", "", "a=1 |");
+    Ok(())
+}
+
+/// What the words leave over a folder that tells nothing and gives these contents in turn.
+fn run_listed(alloc: Global, given: &[&str], contents: &[&str]) -> Result<Left, Fail> {
+    let mut list = Vec::new(alloc);
+    for text in contents {
+        list.push(text.as_bytes().to_vec(alloc)?)?;
+    }
+    let mut files = ListedFolder::new(list);
+    let keeper = MemoryKeeper::new(alloc);
+    run_on(alloc, given, &mut files, keeper, MemoryOut::new(alloc))
+}
+
+#[test]
+fn a_folder_that_tells_nothing_is_read_as_any(rt: HostRuntime) -> Result<(), Fail> {
+    let alloc = rt.alloc();
+    let left = run_listed(alloc, &["sim", "app.json"], &[COUNTED, "a\nb\na\n"])?;
+    expect(&rt, &left, 0, COUNTED_TEXT, "", "a=1 b=1 |a=2 |");
+    let left = run_listed(alloc, &["sim", "app.json"], &[COUNTED])?;
+    expect_refused(&rt, &left, 3, "apex: no file in.txt\n");
+    let left = run_listed(alloc, &["check", "app.json"], &[COUNTED, "{"])?;
+    expect(&rt, &left, 0, "ok\n", "", "");
+    let script = ["sim", "app.json", "--script", "s"];
+    let left = run_listed(alloc, &script, &[COUNTED, "a\n", "kill done 2 0 tally\n"])?;
+    expect_refused(&rt, &left, 7, "apex: script line 1 refused: S4\n");
+    let left = run_listed(alloc, &["plan", "app.json"], &[])?;
+    expect_refused(&rt, &left, 3, "apex: no file app.json\n");
+    let left = run_listed(alloc, &["plan"], &[COUNTED])?;
+    expect_refused(&rt, &left, 1, "apex: not a command\n");
     Ok(())
 }

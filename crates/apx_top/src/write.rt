@@ -52,7 +52,8 @@ pub(crate) fn write_four<O: Out>(
     third: &[u8],
     fourth: &[u8],
 ) -> Result<(), Failed>
-    ensures written { HasWritten O.tells (first.now ++ (second.now ++ (third.now ++ fourth.now))) result (O.written out.old) (O.written out.new) }
+    ensures written { HasWritten O.tells (first.now ++ (second.now ++ (third.now ++ fourth.now))) result
+        (O.written out.old) (O.written out.new) }
     ensures later { O.faults out.old ≤ O.faults out.new }
     ensures cause { IsErr result → Rose (O.faults out.old) (O.faults out.new) }
 {
@@ -69,7 +70,8 @@ pub(crate) fn write_five<O: Out>(
     fourth: &[u8],
     fifth: &[u8],
 ) -> Result<(), Failed>
-    ensures written { HasWritten O.tells (first.now ++ (second.now ++ (third.now ++ (fourth.now ++ fifth.now)))) result (O.written out.old) (O.written out.new) }
+    ensures written { HasWritten O.tells (first.now ++ (second.now ++ (third.now ++ (fourth.now ++ fifth.now)))) result
+        (O.written out.old) (O.written out.new) }
     ensures later { O.faults out.old ≤ O.faults out.new }
     ensures cause { IsErr result → Rose (O.faults out.old) (O.faults out.new) }
 {

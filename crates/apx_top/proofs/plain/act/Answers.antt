@@ -1,17 +1,21 @@
-use Rattle.std.proofs.Common.{refl, sym, ap, ◌∙◌}
-use Rattle.std.specs.Prelude.{Some}
-use Rattle.apx_load.specs.declared.words.Action.{Action}
+use Rattle.std.proofs.Common.{refl, [], map}
+use Rattle.std.specs.Prelude.{string_bytes}
+use Rattle.std.proofs.lemmas.Result.{err_from_is_err_and}
 use Rattle.apx_load.proofs.Heard.{heard_none, heard_weaker}
-use Rattle.apx_top.specs.Plain.{no_command, checked, ran}
+use Rattle.apx_top.specs.Changes.{call_of}
+use Rattle.apx_top.specs.Plain.{performed}
+use Rattle.apx_top.proofs.Acting.{unheard}
 use Rattle.apx_top.proofs.plain.act.Goals as goal
 
-pub returns-in-None-clause-heard : goal.returns-in-None-clause-heard
-returns-in-None-clause-heard g c = heard_none _ _ _ _ (no_command (sym c.in-None.ensures) refl refl refl refl)
+pub returns-in_err-command-clause-heard : goal.returns-in_err-command-clause-heard
+returns-in_err-command-clause-heard g c =
+    let p = err_from_is_err_and c.from_residual.result c.from_residual.ensures.1 in
+    rw (p.1, p.2)
+    (heard_none g.F.Folder.tells (g.F.Folder.told c.args.files.now) (g.F.Folder.heard c.args.files.now) _
+    (unheard (map string_bytes c.args.words.now) (call_of [] _ _ _) c.in_err-command.field-0.0 refl refl refl c.in_err-command.ensures.answers))
 
-pub returns-in-Some-Check-default-clause-heard : goal.returns-in-Some-Check-default-clause-heard
-returns-in-Some-Check-default-clause-heard g c =
-    heard_weaker g.F.Folder.tells (g.F.Folder.told c.args.files.now) (g.F.Folder.heard c.args.files.now) (g.F.Folder.heard c.check.new.files) _ _ (λ answers p. checked c.in-Some-Check-default.name.now (sym c.in-Some-Check-default.ensures ∙ ap (λ (a : Action). Some (a, c.in-Some-Check-default.name.now)) c.in-Some-Check-default.field-0-0-is) p.0 refl p.1) c.check.ensures.heard
-
-pub returns-in-Some-Sim-default-clause-heard : goal.returns-in-Some-Sim-default-clause-heard
-returns-in-Some-Sim-default-clause-heard g c =
-    heard_weaker g.F.Folder.tells (g.F.Folder.told c.args.files.now) (g.F.Folder.heard c.args.files.now) (g.F.Folder.heard c.sim.new.files) _ _ (λ answers p. ran c.in-Some-Sim-default.name.now (sym c.in-Some-Sim-default.ensures ∙ ap (λ (a : Action). Some (a, c.in-Some-Sim-default.name.now)) c.in-Some-Sim-default.field-0-0-is) p) c.sim.ensures.heard
+pub returns-clause-heard : goal.returns-clause-heard
+returns-clause-heard g c =
+    heard_weaker g.F.Folder.tells (g.F.Folder.told c.args.files.now) (g.F.Folder.heard c.args.files.now) (g.F.Folder.heard c.perform.new.files) _ _
+    (λ answers is. performed c.in_ok-command.command c.in_ok-command.ensures.answers is)
+    c.perform.ensures.heard

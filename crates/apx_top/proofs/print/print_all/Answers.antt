@@ -10,15 +10,15 @@ loop-done-init g c = record {
   stored = refl;
   store_later = omega arith;
   later = omega arith;
-  written = λ t l o. none-more 1000000000 1 (g.O.Out.written c.args.out.now);
+  written = λ t l o. none-more c.args.base 1 (g.O.Out.written c.args.out.now);
 }
 
 pub returns-in_err-print_window-clause-written : goal.returns-in_err-print_window-clause-written
 returns-in_err-print_window-clause-written g c = λ t l.
     let h : c.loop-done.done < length (g.K.Keeper.stored c.args.keeper.now) = omega (arith, c.loop-done-test.true) in
-    let there = ap (λ s. slice_get s (c.loop-done.done + 1 - 1)) c.loop-done.invariant.stored ∙ rows-there 1000000000 (g.K.Keeper.stored c.args.keeper.now) c.loop-done.done h in
+    let there = ap (λ s. slice_get s (c.loop-done.done + 1 - 1)) c.loop-done.invariant.stored ∙ rows-there c.args.base (g.K.Keeper.stored c.args.keeper.now) c.loop-done.done h in
     of-error g.O.Out.tells _ _ _ _ c.from_residual.ensures.0
-    (λ o. failed 1000000000 (g.K.Keeper.stored c.args.keeper.now) c.loop-done.done h c.args.windows c.loop-done-test.true _ _ _ (c.loop-done.invariant.written t l o)
+    (λ o. failed c.args.base (g.K.Keeper.stored c.args.keeper.now) c.loop-done.done h c.args.windows c.loop-done-test.true _ _ _ (c.loop-done.invariant.written t l o)
     (c.in_err-print_window.ensures.written t _ there o))
 
 pub loop-done-preserved : goal.loop-done-preserved
@@ -31,9 +31,9 @@ loop-done-preserved g c = record {
   written = λ t l o.
       let stored = c.loop-done.invariant.stored in
       let h : c.loop-done.done < length (g.K.Keeper.stored c.args.keeper.now) = omega (arith, c.loop-done-test.true) in
-      let there = ap (λ s. slice_get s (c.loop-done.done + 1 - 1)) stored ∙ rows-there 1000000000 (g.K.Keeper.stored c.args.keeper.now) c.loop-done.done h in
+      let there = ap (λ s. slice_get s (c.loop-done.done + 1 - 1)) stored ∙ rows-there c.args.base (g.K.Keeper.stored c.args.keeper.now) c.loop-done.done h in
       let w = c.in_ok-print_window.ensures.written t _ there o in
-      w ∙ ap (λ x. x ++ window_text 1000000000 (c.loop-done.done + 1) (get_or (g.K.Keeper.stored c.args.keeper.now) c.loop-done.done [])) (c.loop-done.invariant.written t l o)
-      ∙ append_assoc (g.O.Out.written c.args.out.now) (windows_text 1000000000 1 (take c.loop-done.done (g.K.Keeper.stored c.args.keeper.now))) (window_text 1000000000 (c.loop-done.done + 1) (get_or (g.K.Keeper.stored c.args.keeper.now) c.loop-done.done []))
-      ∙ ap (λ x. g.O.Out.written c.args.out.now ++ x) (sym (one-more 1000000000 (g.K.Keeper.stored c.args.keeper.now) c.loop-done.done h));
+      w ∙ ap (λ x. x ++ window_text c.args.base (c.loop-done.done + 1) (get_or (g.K.Keeper.stored c.args.keeper.now) c.loop-done.done [])) (c.loop-done.invariant.written t l o)
+      ∙ append_assoc (g.O.Out.written c.args.out.now) (windows_text c.args.base 1 (take c.loop-done.done (g.K.Keeper.stored c.args.keeper.now))) (window_text c.args.base (c.loop-done.done + 1) (get_or (g.K.Keeper.stored c.args.keeper.now) c.loop-done.done []))
+      ∙ ap (λ x. g.O.Out.written c.args.out.now ++ x) (sym (one-more c.args.base (g.K.Keeper.stored c.args.keeper.now) c.loop-done.done h));
 }

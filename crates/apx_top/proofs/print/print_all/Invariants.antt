@@ -10,5 +10,5 @@ invariant-loop-done g l = record {
   store_later : g.K.Keeper.faults l.initial.keeper ≤ g.K.Keeper.faults l.keeper;
   later : g.O.Out.faults l.initial.out ≤ g.O.Out.faults l.out;
   written : IsTrue g.K.Keeper.tells → l.windows ≤ length (g.K.Keeper.stored l.initial.keeper) → IsTrue g.O.Out.tells →
-      g.O.Out.written l.out ≡ g.O.Out.written l.initial.out ++ windows_text 1000000000 1 (take l.done (g.K.Keeper.stored l.initial.keeper));
+      g.O.Out.written l.out ≡ g.O.Out.written l.initial.out ++ windows_text l.base 1 (take l.done (g.K.Keeper.stored l.initial.keeper));
 }

@@ -1,0 +1,29 @@
+use Rattle.std.proofs.Common.{refl}
+use Rattle.apx_load.proofs.Heard.{heard_weaker}
+use Rattle.apx_top.specs.Changes.{call_of}
+use Rattle.apx_top.proofs.Acting.{unbuilt_heard, told_by}
+use Rattle.apx_top.proofs.plain.perform.Goals as goal
+
+pub returns-in-Sim-clause-heard : goal.returns-in-Sim-clause-heard
+returns-in-Sim-clause-heard g c =
+    heard_weaker g.F.Folder.tells (g.F.Folder.told c.args.files.now) (g.F.Folder.heard c.args.files.now) (g.F.Folder.heard c.sim.new.files) _ _
+    (λ answers ran. told_by c.text-in-Sim.result.now c.in-Sim.app c.as_ref.result c.in-Sim.script c.in-Sim.settings c.in-Sim.order c.args.command.now _ c.sim.result c.text-in-Sim.ensures c.as_ref.ensures.value c.in-Sim.is ran)
+    c.sim.ensures.heard
+
+pub returns-in-Mean-clause-heard : goal.returns-in-Mean-clause-heard
+returns-in-Mean-clause-heard g c = unbuilt_heard g.F.Folder.tells (g.F.Folder.told c.args.files.now) (g.F.Folder.heard c.args.files.now) _ _ _ refl refl c.args.command.now _ c.in-Mean.is tt
+
+pub returns-in-Run-clause-heard : goal.returns-in-Run-clause-heard
+returns-in-Run-clause-heard g c = unbuilt_heard g.F.Folder.tells (g.F.Folder.told c.args.files.now) (g.F.Folder.heard c.args.files.now) _ _ _ refl refl c.args.command.now _ c.in-Run.is tt
+
+pub returns-in-Gen-clause-heard : goal.returns-in-Gen-clause-heard
+returns-in-Gen-clause-heard g c = unbuilt_heard g.F.Folder.tells (g.F.Folder.told c.args.files.now) (g.F.Folder.heard c.args.files.now) _ _ _ refl refl c.args.command.now _ c.in-Gen.is tt
+
+pub returns-in-Group-clause-heard : goal.returns-in-Group-clause-heard
+returns-in-Group-clause-heard g c = unbuilt_heard g.F.Folder.tells (g.F.Folder.told c.args.files.now) (g.F.Folder.heard c.args.files.now) _ _ _ refl refl c.args.command.now _ c.in-Group.is tt
+
+pub returns-in-Trace-clause-heard : goal.returns-in-Trace-clause-heard
+returns-in-Trace-clause-heard g c = unbuilt_heard g.F.Folder.tells (g.F.Folder.told c.args.files.now) (g.F.Folder.heard c.args.files.now) _ _ _ refl refl c.args.command.now _ c.in-Trace.is tt
+
+pub returns-in-Audit-clause-heard : goal.returns-in-Audit-clause-heard
+returns-in-Audit-clause-heard g c = unbuilt_heard g.F.Folder.tells (g.F.Folder.told c.args.files.now) (g.F.Folder.heard c.args.files.now) _ _ _ refl refl c.args.command.now _ c.in-Audit.is tt

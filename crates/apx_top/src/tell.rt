@@ -1,0 +1,55 @@
+//! What is told of an application without running it.
+ghost use Rattle.std.specs.Prelude.{◌≡◌, length};
+ghost use Rattle.apx_cause.specs.Cause.{Rose};
+ghost use Rattle.apx_load.specs.Hearing.{HasHeard};
+ghost use Rattle.apx_plan.specs.Plan as plans;
+ghost use Rattle.apx_top.specs.Changes.{output_change};
+ghost use Rattle.apx_top.specs.Plain.{HasToldTo, ok_text};
+
+use crate::write::write_all;
+use apx_device::{Folder, Out};
+use apx_load::{Stop, application};
+use apx_plan::plan_text;
+use std::alloc::Global;
+
+/// Judges an application, and writes `ok` where it is accepted.
+pub(crate) fn check<F: Folder, O: Out>(
+    alloc: Global,
+    files: &mut F,
+    name: &str,
+    out: &mut O,
+) -> Result<(), Stop>
+    ensures told { F.told files.new ≡ F.told files.old }
+    ensures heard { HasHeard F.tells (F.told files.old) (F.heard files.old) (F.heard files.new) (λ answers.
+        (length answers ≡ 1) × HasToldTo ok_text name.now answers (Rose (F.faults files.old) (F.faults files.new))
+        (output_change O.tells O.written O.faults out.old out.new) result) }
+{
+    application(alloc, files, name)?;
+    match write_all(out, b"ok\n") {
+        Ok(()) => Ok(()),
+        Err(_) => Err(Stop::OutputFailed),
+    }
+}
+
+/// Judges an application, and writes its plan where it is accepted.
+pub(crate) fn plan<F: Folder, O: Out>(
+    alloc: Global,
+    files: &mut F,
+    name: &str,
+    out: &mut O,
+) -> Result<(), Stop>
+    ensures told { F.told files.new ≡ F.told files.old }
+    ensures heard { HasHeard F.tells (F.told files.old) (F.heard files.old) (F.heard files.new) (λ answers.
+        (length answers ≡ 1) × HasToldTo plans.plan_text name.now answers (Rose (F.faults files.old) (F.faults files.new))
+        (output_change O.tells O.written O.faults out.old out.new) result) }
+{
+    let dag = application(alloc, files, name)?;
+    let mut text = Vec::new(alloc);
+    if plan_text(&dag, &mut text).is_err() {
+        return Err(Stop::Memory);
+    }
+    match write_all(out, &text) {
+        Ok(()) => Ok(()),
+        Err(_) => Err(Stop::OutputFailed),
+    }
+}
