@@ -7,3 +7,4 @@ pub mod Small
 pub mod Outlook
 pub mod Listed
 pub mod Picked
+pub mod Sample

@@ -20,3 +20,6 @@ mod plan;
 pub use journal::Journal;
 pub use machine::Machine;
 pub use plan::{Operator, Plan};
+
+#[cfg(test)]
+mod tests;
