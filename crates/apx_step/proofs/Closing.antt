@@ -68,7 +68,7 @@ put_all-entries entry pairs ks a s quiet =
         value_at-elsewhere entry (each_once key_order (keys_of pairs ++ ks)) q (omega (arith, e, each_once-times key_order-exact q (keys_of pairs ++ ks))) ∙ sym (value_at-none pairs q here) ∙ quiet q came
     by q (suc n) e = value_at-among entry (each_once key_order (keys_of pairs ++ ks)) q (omega (arith, e, each_once-times key_order-exact q (keys_of pairs ++ ks)))
 
-entries_at-none : (entry : List ℕ → Option ℤ) (ks : List (List ℕ)) → ((k : List ℕ) → entry k ≡ None) → entries_at entry ks ≡ []
+pub entries_at-none : (entry : List ℕ → Option ℤ) (ks : List (List ℕ)) → ((k : List ℕ) → entry k ≡ None) → entries_at entry ks ≡ []
 unfolding entries_at
 entries_at-none entry [] h = refl
 entries_at-none entry (k ∷ ks) h = rw (h k) (entries_at-none entry ks h)

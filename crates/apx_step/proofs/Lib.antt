@@ -1,7 +1,8 @@
-pub mod Fronts
-pub mod Splits
-pub mod Groups
-pub mod Walks
-pub mod Laws
 pub mod Closing
+pub mod EachTuple
+pub mod Fronts
+pub mod Groups
+pub mod Laws
 pub mod Ranking
+pub mod Splits
+pub mod Walks

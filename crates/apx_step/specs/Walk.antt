@@ -17,7 +17,10 @@ values tuples = map (λ t. t.value) tuples
 
 -- what an operator makes of a key at a window that ends no sum; no kind but `tumble` looks at the window
 unfoldable pub open_rule : Kind → List ℕ → Option ℤ → List ℤ → List ℤ → Outcome
-open_rule (Tumble every) key old lefts rights = record { entry = cond (came lefts) (Some (total (unwrap_or old (pos 0)) lefts)) old; emitted = [] }
+open_rule (Tumble every) key old lefts rights = record {
+  entry = cond (came lefts) (Some (total (unwrap_or old (pos 0)) lefts)) old;
+  emitted = [];
+}
 open_rule kind key old lefts rights = rule kind 0 key old lefts rights
 
 -- what the kinds that keep nothing emit of a key; the others have no part in it

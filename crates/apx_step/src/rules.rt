@@ -19,7 +19,7 @@ pub(crate) fn emit(key: &Key, value: i64, emitted: &mut Vec<Tuple>) -> Result<()
 }
 
 /// Whether the value is from `min` to `max`.
-fn is_within(min: i64, max: i64, value: i64) -> bool
+pub(crate) fn is_within(min: i64, max: i64, value: i64) -> bool
     ensures { result ≡ (int_le min value && int_le value max) }
 {
     min <= value && value <= max
@@ -260,7 +260,8 @@ fn enrich(
     emitted: &mut Vec<Tuple>,
 ) -> Result<Option<i64>, AllocError>
     ensures entry { IfOk result (λ entry. entry ≡ (enrich_rule key.now old (values lefts.now) (values rights.now)).entry) }
-    ensures emitted { OnOk result (emitted.new.items ≡ emitted.old.items ++ (enrich_rule key.now old (values lefts.now) (values rights.now)).emitted) }
+    ensures emitted { OnOk result (emitted.new.items ≡ emitted.old.items ++
+        (enrich_rule key.now old (values lefts.now) (values rights.now)).emitted) }
 {
     let entry = newest(old, rights);
     if let Some(more) = entry {
@@ -281,7 +282,8 @@ pub(crate) fn apply(
     emitted: &mut Vec<Tuple>,
 ) -> Result<Option<i64>, AllocError>
     ensures entry { IfOk result (λ entry. entry ≡ (open_rule kind.now key.now old (values lefts.now) (values rights.now)).entry) }
-    ensures emitted { OnOk result (emitted.new.items ≡ emitted.old.items ++ (open_rule kind.now key.now old (values lefts.now) (values rights.now)).emitted) }
+    ensures emitted { OnOk result (emitted.new.items ≡ emitted.old.items ++
+        (open_rule kind.now key.now old (values lefts.now) (values rights.now)).emitted) }
 {
     match *kind {
         Kind::Count => count(key, old, lefts, emitted),
@@ -307,7 +309,8 @@ fn pass_on(
     rights: &[Tuple],
     emitted: &mut Vec<Tuple>,
 ) -> Result<(), AllocError>
-    ensures { OnOk result (emitted.new.items ≡ emitted.old.items ++ emitted_of_passing kind.now key.now (values lefts.now) (values rights.now)) }
+    ensures { OnOk result (emitted.new.items ≡ emitted.old.items ++
+        emitted_of_passing kind.now key.now (values lefts.now) (values rights.now)) }
 {
     match *kind {
         Kind::Keep { min, max } => emit_kept(min, max, key, lefts, emitted),

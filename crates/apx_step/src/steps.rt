@@ -7,6 +7,7 @@ ghost use Rattle.apx_rules.specs.Step.{keyed_step, step};
 ghost use Rattle.apx_step.specs.Walk.{keeps, start_of, closes, pair_tuple};
 
 use crate::rules::emit;
+use crate::singles::{keep, scale};
 use crate::top::top;
 use crate::walk::walk;
 use apx_tuple::{Bag, Kind, Short, State, Tuple};
@@ -25,8 +26,12 @@ pub fn step(
     left: &Bag,
     right: &Bag,
 ) -> Result<(State, Bag), Short>
-    ensures ok { IfOk result (λ r. (r.0 ≡ (step kind.now window state.now left.now right.now).state) × (r.1 ≡ (step kind.now window state.now left.now right.now).rows)) }
-    ensures large { result ≡ Err Short.Large → IsLarge pair_key (step kind.now window state.now left.now right.now).state ⊎ IsLarge tuple_key (step kind.now window state.now left.now right.now).rows }
+    ensures ok { IfOk result (λ r.
+        (r.0 ≡ (step kind.now window state.now left.now right.now).state)
+        × (r.1 ≡ (step kind.now window state.now left.now right.now).rows)) }
+    ensures large { result ≡ Err Short.Large →
+        IsLarge pair_key (step kind.now window state.now left.now right.now).state
+        ⊎ IsLarge tuple_key (step kind.now window state.now left.now right.now).rows }
 {
     step_in_place(alloc, kind, window, state.copy()?, left, right)
 }
@@ -42,12 +47,41 @@ pub fn step_in_place(
     left: &Bag,
     right: &Bag,
 ) -> Result<(State, Bag), Short>
-    ensures ok { IfOk result (λ r. (r.0 ≡ (step kind.now window state left.now right.now).state) × (r.1 ≡ (step kind.now window state left.now right.now).rows)) }
-    ensures large { result ≡ Err Short.Large → IsLarge pair_key (step kind.now window state left.now right.now).state ⊎ IsLarge tuple_key (step kind.now window state left.now right.now).rows }
+    ensures ok { IfOk result (λ r.
+        (r.0 ≡ (step kind.now window state left.now right.now).state)
+        × (r.1 ≡ (step kind.now window state left.now right.now).rows)) }
+    ensures large { result ≡ Err Short.Large →
+        IsLarge pair_key (step kind.now window state left.now right.now).state
+        ⊎ IsLarge tuple_key (step kind.now window state left.now right.now).rows }
 {
     match *kind {
         Kind::Top { k } => Ok((State::new(alloc), top(alloc, k, left)?)),
         _ => keyed_step(alloc, kind, window, state, left, right),
+    }
+}
+
+/// The same, with the bags given away too: `keep` and `scale` change the left one in place.
+///
+/// `Large` comes only where that state or those rows are too large. All that is given away is dropped on a refusal.
+pub fn step_by_value(
+    alloc: Global,
+    kind: &Kind,
+    window: u32,
+    state: State,
+    left: Bag,
+    right: Bag,
+) -> Result<(State, Bag), Short>
+    ensures ok { IfOk result (λ r.
+        (r.0 ≡ (step kind.now window state left right).state)
+        × (r.1 ≡ (step kind.now window state left right).rows)) }
+    ensures large { result ≡ Err Short.Large →
+        IsLarge pair_key (step kind.now window state left right).state
+        ⊎ IsLarge tuple_key (step kind.now window state left right).rows }
+{
+    match *kind {
+        Kind::Keep { min, max } => Ok((State::new(alloc), keep(min, max, left)?)),
+        Kind::Scale { factor } => Ok((State::new(alloc), scale(factor, left)?)),
+        _ => step_in_place(alloc, kind, window, state, &left, &right),
     }
 }
 
@@ -60,8 +94,12 @@ fn keyed_step(
     left: &Bag,
     right: &Bag,
 ) -> Result<(State, Bag), Short>
-    ensures ok { IfOk result (λ r. (r.0 ≡ (keyed_step kind.now window state left.now right.now).state) × (r.1 ≡ (keyed_step kind.now window state left.now right.now).rows)) }
-    ensures large { result ≡ Err Short.Large → IsLarge pair_key (keyed_step kind.now window state left.now right.now).state ⊎ IsLarge tuple_key (keyed_step kind.now window state left.now right.now).rows }
+    ensures ok { IfOk result (λ r.
+        (r.0 ≡ (keyed_step kind.now window state left.now right.now).state)
+        × (r.1 ≡ (keyed_step kind.now window state left.now right.now).rows)) }
+    ensures large { result ≡ Err Short.Large →
+        IsLarge pair_key (keyed_step kind.now window state left.now right.now).state
+        ⊎ IsLarge tuple_key (keyed_step kind.now window state left.now right.now).rows }
 {
     let start = start_of(alloc, kind, state);
     let (kept, emitted) = walk(alloc, kind, start, left, right)?;
