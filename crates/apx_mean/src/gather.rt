@@ -8,14 +8,16 @@ ghost use Rattle.std.specs.Bool.{OnTrue};
 ghost use Rattle.apx_mean.specs.Views.{carry, IsLargeStep, IsPassed};
 ghost use Rattle.apx_pass.specs.Large.{IsLargePassed};
 
-use apx_step::step_in_place;
+use apx_step::step_by_value;
 use apx_tuple::{Bag, Kind, Progress, Short, State};
 use std::alloc::Global;
 
 /// What an operator carries on from a window, and what it gives in it.
 #[derive(Debug, Drop)]
 pub(crate) struct Passed {
+    /// What it carries on.
     pub(crate) progress: Progress,
+    /// What it gives.
     pub(crate) rows: Bag,
 }
 
@@ -44,7 +46,7 @@ fn stepped(
         × (passed.rows ≡ (step_of kind.now window state left right).rows)) }
     ensures large { result ≡ Err Short.Large → IsLargeStep (step_of kind.now window state left right) }
 {
-    let (state, rows) = step_in_place(alloc, kind, window, state, &left, &right)?;
+    let (state, rows) = step_by_value(alloc, kind, window, state, left, right)?;
     let progress = Progress {
         state,
         left: Bag::new(alloc),

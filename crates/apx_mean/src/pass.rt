@@ -18,8 +18,14 @@ use std::alloc::{AllocError, Global};
 use std::marker::Model;
 
 /// A pass over an application that has gone through its first windows.
+///
+/// ```
+/// let pass = OnePass::new(alloc, &dag, &inputs)?;
+/// let (pass, rows) = pass.next(alloc)?;
+/// ```
 #[derive(Drop)]
 pub struct OnePass<'a> {
+    /// The application.
     dag: &'a Dag,
     /// What each input reads, in the order of the file.
     inputs: &'a [Windows],
@@ -29,6 +35,7 @@ pub struct OnePass<'a> {
     sink: usize,
     /// What each operator carries on, in the order.
     progress: Vec<Progress>,
+    /// How many windows it has gone through.
     passed: u32,
 }
 

@@ -13,8 +13,15 @@ use std::alloc::{AllocError, Global};
 use std::marker::Model;
 
 /// Tuples in ascending order, repeats kept; its size stays below 4294967232.
+///
+/// ```
+/// let mut tuples = Vec::new(alloc);
+/// tuples.push(Tuple { key: Key::of(alloc, b"b")?, value: 1 })?;
+/// let bag = Bag::of(tuples)?;
+/// ```
 #[derive(Debug, Drop)]
 pub struct Bag {
+    /// The tuples, in order.
     tuples: Vec<Tuple>,
 }
 

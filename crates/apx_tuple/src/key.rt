@@ -17,11 +17,17 @@ const FRONT_LEN: usize = 8;
 /// A key: 0 to 1,024 bytes, compared byte by byte, with a proper prefix first.
 ///
 /// Keys of up to 15 bytes lie in the value itself.
+///
+/// ```
+/// let key = Key::of(alloc, b"a key")?;
+/// let bytes = key.bytes();
+/// ```
 #[derive(Debug, Drop)]
 pub struct Key {
     /// The first eight bytes as a number, so that most comparisons end at it. Where two fronts are equal the
     /// bytes decide: `a` and `a` with a zero byte behind it have one front.
     front: u64,
+    /// All its bytes.
     bytes: SmallVec<u8, 15>,
 }
 

@@ -6,10 +6,18 @@ use crate::state::State;
 use std::alloc::Global;
 
 /// An operator's state, and what came on its ports since its last step.
+///
+/// ```
+/// let mut progress = Progress::new(alloc);
+/// progress.state.set(Key::of(alloc, b"b")?, 2)?;
+/// ```
 #[derive(Debug, Drop)]
 pub struct Progress {
+    /// What it keeps for each key.
     pub state: State,
+    /// What came on its left port since its last step.
     pub left: Bag,
+    /// The same of its right port.
     pub right: Bag,
 }
 

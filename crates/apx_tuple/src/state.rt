@@ -17,8 +17,14 @@ use std::collections::{BTreeMap, btree_map};
 use std::marker::Model;
 
 /// A number kept for each of some keys; its size stays below 4294967232.
+///
+/// ```
+/// let mut state = State::new(alloc);
+/// state.set(Key::of(alloc, b"b")?, 2)?;
+/// ```
 #[derive(Debug, Drop)]
 pub struct State {
+    /// The number under each key.
     entries: BTreeMap<Key, i64>,
     /// Over the keys, their length and 10.
     size: u64,
@@ -197,6 +203,7 @@ fn collected(alloc: Global, pairs: Vec<(Key, i64)>) -> Result<BTreeMap<Key, i64>
 /// The pairs of a state that are left, in the keys' order.
 #[derive(Drop)]
 pub struct Pairs<'a> {
+    /// The pairs that are left.
     pairs: btree_map::Iter<'a, Key, i64>,
 }
 

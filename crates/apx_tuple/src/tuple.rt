@@ -7,7 +7,9 @@ use std::alloc::AllocError;
 /// A key and its value, ordered by key and then by value.
 #[derive(Debug, PartialEq, Eq, PartialOrd, Ord, Drop)]
 pub struct Tuple {
+    /// Its key.
     pub key: Key,
+    /// Its value.
     pub value: i64,
 }
 

@@ -14,6 +14,12 @@ use std::collections::VecDeque;
 use std::marker::Model;
 
 /// Takes a stream piece by piece, and hands out its messages in order.
+///
+/// ```
+/// let mut decoder = Decoder::new(alloc);
+/// decoder.feed(piece)?;
+/// while let Some(message) = decoder.next() {}
+/// ```
 #[derive(Debug, Drop)]
 pub struct Decoder {
     /// Whole messages that weren't handed out yet, the earliest first.
