@@ -29,7 +29,7 @@ is_command() { [ $# -gt 0 ] && [[ " $commands " == *" $1 "* ]]; }
 build() {
     local started="$built.$$" since=$SECONDS
     touch "$started"
-    say "proving and building the program, which takes minutes the first time (see $log)"
+    say "proving and building the program, which takes a quarter of an hour the first time (see $log)"
     (cd "$top/crates/apex" && rt run) >"$log" 2>&1 </dev/null
     if ! grep -q '^rt: running out/apex' "$log" || [ ! -x "$program" ]; then
         rm -f "$started"
