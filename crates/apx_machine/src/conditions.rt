@@ -1,9 +1,8 @@
 //! Which events may come next.
-ghost use Rattle.std.specs.Prelude.{◌≡◌, ℕ, ◌<◌, ◌≤◌, ◌&&◌, not, min, max, Bool, length, get_or, cond};
-ghost use Rattle.apx_history.specs.Plan.{reads, splits as splits_act, splits_op as splits_at, fails_part as fails_at, kills as kills_at, line as line_at};
-ghost use Rattle.apx_history.specs.State.{State, oper, parts, slot, IsPart, is_left, running, all_below, all_parts, all_slots, lowest, lowest_slot};
-ghost use Rattle.apx_history.specs.Enabled.{limit, is_part, at_point, at_act, due, in_tree, calm, calm_above, sources_have, readers_rc, readers_reach, greatest, advance_to, least_rc, tree_closed, rests_at, can_start, can_write, can_finish, can_save, can_advance, can_commit, can_purge, can_kill, can_repartition, can_end, can_now, can, is_status as status_at};
-ghost use Rattle.apx_history.specs.Choices.{purge_to};
+ghost use Rattle.std.specs.Prelude.{◌≡◌, ◌<◌, ◌≤◌, ◌&&◌, min, max, length, cond};
+ghost use Rattle.apx_history.specs.Plan.{splits as splits_act, fails_part as fails_at, kills as kills_at};
+ghost use Rattle.apx_history.specs.State.{parts, slot, IsPart, is_left, all_parts, all_slots};
+ghost use Rattle.apx_history.specs.Enabled.{limit, is_part, at_point, at_act, in_tree, sources_have, readers_rc, readers_reach, greatest, advance_to, least_rc, tree_closed, rests_at, can_start, can_write, can_finish, can_save, can_advance, can_commit, can_purge, can_kill, can_repartition, can_end, can_now, can, is_status as status_at};
 ghost use Rattle.apx_machine.specs.Asked.{meets};
 ghost use Rattle.apx_machine.specs.Outlook.{IsOutlook};
 

@@ -1,5 +1,5 @@
 //! The list of the events to choose from.
-ghost use Rattle.std.specs.Prelude.{◌≡◌, ℕ, ◌+◌, ◌<◌, ◌≤◌, [], ◌∷◌, ◌++◌, length, IfOk};
+ghost use Rattle.std.specs.Prelude.{◌≡◌, ◌+◌, ◌<◌, ◌≤◌, [], ◌∷◌, ◌++◌, length, IfOk};
 ghost use Rattle.std.specs.List.{filter};
 ghost use Rattle.apx_history.specs.State.{IsPart};
 ghost use Rattle.apx_history.specs.Enabled.{can};

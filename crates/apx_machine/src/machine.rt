@@ -1,5 +1,5 @@
 //! The machine of a run.
-ghost use Rattle.std.specs.Prelude.{◌≡◌, ℕ, ◌≤◌, ◌<◌, Bool, true, length, get_or, IfOk, IfSome, OnOk, OnErr};
+ghost use Rattle.std.specs.Prelude.{◌≡◌, ◌≤◌, ◌<◌, true, length, get_or, IfOk, IfSome, OnOk, OnErr};
 ghost use Rattle.apx_history.specs.State.{oper, parts, slot, IsPart, running};
 ghost use Rattle.apx_history.specs.Enabled.{can};
 ghost use Rattle.apx_history.specs.Effects.{next};

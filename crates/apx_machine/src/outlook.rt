@@ -1,8 +1,8 @@
 //! What is looked up once of a state, for all events that may come next: a look at each line of the script and at each
 //! stream, so that each event then takes a few steps.
-ghost use Rattle.std.specs.Prelude.{◌≡◌, ℕ, ◌+◌, ◌*◌, ◌<◌, ◌≤◌, ◌&&◌, not, false, length, get_or, cond};
+ghost use Rattle.std.specs.Prelude.{◌≡◌, ℕ, ◌+◌, ◌*◌, ◌<◌, ◌≤◌, ◌&&◌, not, false, length, get_or};
 ghost use Rattle.apx_history.specs.Plan.{below, kills as kills_at, line as line_at};
-ghost use Rattle.apx_history.specs.State.{oper, parts, slot, IsPart, lowest};
+ghost use Rattle.apx_history.specs.State.{parts, slot, IsPart, lowest};
 ghost use Rattle.apx_history.specs.Enabled.{limit, due, calm, calm_above, sources_have, readers_reach};
 ghost use Rattle.apx_history.specs.Kept.{IsPlan, Kept};
 ghost use Rattle.apx_machine.specs.Small.{IsSmall};

@@ -1,5 +1,5 @@
 //! How many events there are to choose from, the one at a place, and the first for a worker, with no list made.
-ghost use Rattle.std.specs.Prelude.{◌≡◌, ℕ, ◌+◌, ◌<◌, ◌&&◌, [], ◌∷◌, true, length, get_or, IfSome};
+ghost use Rattle.std.specs.Prelude.{◌≡◌, ◌+◌, ◌<◌, ◌&&◌, [], ◌∷◌, true, length, get_or, IfSome};
 ghost use Rattle.std.specs.List.{filter};
 ghost use Rattle.apx_history.specs.declared.Event.TheVariants.{Write, Commit, End};
 ghost use Rattle.apx_history.specs.State.{slot, open_worker, running};
@@ -232,8 +232,8 @@ impl Engine {
         reached
     }
 
-    /// The search once those of a row were passed that all partitions may have next.
-    fn seek_row(&self, look: &Outlook, want: Want, row: Row, sought: Sought) -> Sought
+    /// The search once those of a row were passed one after the other that all partitions may have next.
+    fn pass_row(&self, look: &Outlook, want: Want, row: Row, sought: Sought) -> Sought
         requires { IsOutlook self.now.plan self.now.state look.now }
         ensures { result ≡ sought_in (wants self.now.plan self.now.state want) (of_row self.now.plan self.now.state row) sought }
     {
@@ -244,8 +244,8 @@ impl Engine {
         reached
     }
 
-    /// The search once those of a row were passed that the lines may have next.
-    fn seek_lines(&self, look: &Outlook, want: Want, row: Met, sought: Sought) -> Sought
+    /// The search once those of a row were passed one after the other that the lines may have next.
+    fn pass_lines(&self, look: &Outlook, want: Want, row: Met, sought: Sought) -> Sought
         requires { IsOutlook self.now.plan self.now.state look.now }
         ensures { result ≡ sought_in (wants self.now.plan self.now.state want) (of_lines self.now.plan self.now.state row) sought }
     {
@@ -254,6 +254,28 @@ impl Engine {
             reached = self.seek(look, want, event_of(row, line as u32), reached);
         }
         reached
+    }
+
+    /// The search once those of a row were passed that all partitions may have next. Nothing is looked at once it is found.
+    fn seek_row(&self, look: &Outlook, want: Want, row: Row, sought: Sought) -> Sought
+        requires { IsOutlook self.now.plan self.now.state look.now }
+        ensures { result ≡ sought_in (wants self.now.plan self.now.state want) (of_row self.now.plan self.now.state row) sought }
+    {
+        match sought {
+            Sought::Found { event: _ } => sought,
+            Sought::Ahead { left: _ } => self.pass_row(look, want, row, sought),
+        }
+    }
+
+    /// The search once those of a row were passed that the lines may have next. Nothing is looked at once it is found.
+    fn seek_lines(&self, look: &Outlook, want: Want, row: Met, sought: Sought) -> Sought
+        requires { IsOutlook self.now.plan self.now.state look.now }
+        ensures { result ≡ sought_in (wants self.now.plan self.now.state want) (of_lines self.now.plan self.now.state row) sought }
+    {
+        match sought {
+            Sought::Found { event: _ } => sought,
+            Sought::Ahead { left: _ } => self.pass_lines(look, want, row, sought),
+        }
     }
 
     /// The Write that could come next.

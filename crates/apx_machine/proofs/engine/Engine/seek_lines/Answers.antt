@@ -1,17 +1,11 @@
-use Rattle.std.proofs.Common.{[], ◌∷◌, ap, ◌∙◌}
-use Rattle.std.specs.List.{filter}
-use Rattle.apx_history.specs.declared.Event.{Event}
-use Rattle.apx_history.specs.Enabled.{can}
-use Rattle.apx_machine.specs.Listed.{of_line}
+use Rattle.std.proofs.Common.{◌≡◌, sym, subst}
+use Rattle.apx_machine.specs.declared.picking.Sought.{Sought}
+use Rattle.apx_machine.specs.Listed.{of_lines}
 use Rattle.apx_machine.specs.Picked.{wants, sought_in}
-use Rattle.apx_machine.proofs.Seeking.{none_sought, one_sought}
+use Rattle.apx_machine.proofs.Seeking.{sought_found}
 use Rattle.apx_machine.proofs.engine.Engine.seek_lines.Goals as goal
 
-pub loop-line-init : goal.loop-line-init
-loop-line-init c = none_sought (wants c.args.self.now.plan c.args.self.now.state c.args.want) (can c.args.self.now.plan c.args.self.now.state) (of_line c.args.row) c.args.sought
-
-pub loop-line-preserved : goal.loop-line-preserved
-loop-line-preserved c =
-    one_sought (wants c.args.self.now.plan c.args.self.now.state c.args.want) (can c.args.self.now.plan c.args.self.now.state) (of_line c.args.row) c.loop-line.line
-    c.args.sought c.loop-line.reached c.seek-reached.result c.loop-line.invariant
-    (c.seek-reached.ensures ∙ ap (λ (e : Event). sought_in (wants c.args.self.now.plan c.args.self.now.state c.args.want) (filter (can c.args.self.now.plan c.args.self.now.state) (e ∷ [])) c.loop-line.reached) c.event_of.ensures)
+pub returns-in-Found : goal.returns-in-Found
+returns-in-Found c =
+    subst (λ (s : Sought). s ≡ sought_in (wants c.args.self.now.plan c.args.self.now.state c.args.want) (of_lines c.args.self.now.plan c.args.self.now.state c.args.row) s) (sym c.in-Found.is)
+    (sought_found (wants c.args.self.now.plan c.args.self.now.state c.args.want) (of_lines c.args.self.now.plan c.args.self.now.state c.args.row) c.in-Found.event)

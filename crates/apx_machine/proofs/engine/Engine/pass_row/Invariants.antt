@@ -5,7 +5,7 @@ use Rattle.apx_history.specs.Enabled.{can}
 use Rattle.apx_history.specs.Choices.{list_below, lists_below}
 use Rattle.apx_machine.specs.Listed.{candidate}
 use Rattle.apx_machine.specs.Picked.{wants, sought_in}
-use Rattle.apx_machine.proofs.engine.Engine.seek_row.Given as goal
+use Rattle.apx_machine.proofs.engine.Engine.pass_row.Given as goal
 
 abbrev pub invariant-loop-op : goal.invariant-loop-op
 invariant-loop-op l =

@@ -4,7 +4,7 @@ use Rattle.apx_history.specs.Enabled.{can}
 use Rattle.apx_history.specs.Choices.{list_below}
 use Rattle.apx_machine.specs.Listed.{of_line}
 use Rattle.apx_machine.specs.Picked.{wants, sought_in}
-use Rattle.apx_machine.proofs.engine.Engine.seek_lines.Given as goal
+use Rattle.apx_machine.proofs.engine.Engine.pass_lines.Given as goal
 
 abbrev pub invariant-loop-line : goal.invariant-loop-line
 invariant-loop-line l =
