@@ -14,5 +14,3 @@ mod progress;
 mod size;
 mod states;
 mod steps;
-#[cfg(test)]
-mod tests;

@@ -1,0 +1,4 @@
+pub mod Fed
+pub mod Gathered
+pub mod Made
+pub mod Spelled
