@@ -38,7 +38,8 @@ impl Job {
     ghost use Rattle.std.specs.Prelude.{◌≡◌, ◌<◌, ◌≤◌, length, IfOk, IsTrue};
     ghost use Rattle.apx_pass.specs.Graph.{node_at, is_input};
     ghost use Rattle.apx_pass.specs.Pass.{inputs_before, windows, input_at, rows_of_input};
-    ghost use Rattle.apx_job.specs.Job.{IsJob, boundary_of, in_force};
+    ghost use Rattle.apx_history.specs.Kept.{IsPlan};
+    ghost use Rattle.apx_job.specs.Job.{IsJob, plan_of, boundary_of, in_force};
     ghost use Rattle.apx_script.specs.Settings.{IsSettings};
     ghost use Rattle.apx_job.specs.Prepared.{job_of, settings_view};
     ghost use Rattle.apx_job.specs.Refusal.{Answers};
@@ -130,6 +131,18 @@ impl Job {
         ensures { result.now ≡ self.now.script }
     {
         self.parts.script.lines()
+    }
+
+    /// What histories ask of a plan holds of the plan of each job: a graph without loops, one sink that has one
+    /// partition, and commands that name what is there. A law; the function does nothing.
+    pub fn is_planned(&self)
+        ensures { IsPlan (plan_of self.now) }
+    {
+        let dag = self.dag();
+        let _operators = dag.len();
+        let _places = dag.order().len();
+        let _windows = self.windows();
+        let _settings = self.settings();
     }
 
     /// The bag of the tuples of an input's window; no tuples where it has no such window.

@@ -1,4 +1,4 @@
-//! Scripts that a job accepts, and each beside those one change away that it refuses.
+//! The order in which the lines of a script are judged, and the epochs that they make.
 
 use crate::Job;
 use crate::parts::{inputs_before, is_input};
@@ -40,42 +40,6 @@ fn job_of(alloc: Global, script: &str) -> Result<Result<Job, (u64, u8)>, Fail> {
 /// A script's first refused line with its reason, or nothing where the job accepts it.
 fn refused(alloc: Global, script: &str) -> Result<Option<(u64, u8)>, Fail> {
     Ok(job_of(alloc, script)?.err())
-}
-
-#[test]
-fn each_reason_has_an_accepted_case_beside_it(rt: HostRuntime) -> Result<(), Fail> {
-    for (accepted, refusal, line, why) in [
-        ("kill done 1 0 tally\n", "kill done 1 0 tallies\n", 1, 3),
-        ("kill done 6 0 tally\n", "kill done 7 0 tally\n", 1, 4),
-        ("kill done 1 0 tally\n", "kill done 0 0 tally\n", 1, 4),
-        ("repartition 4 3 tally\n", "repartition 3 3 tally\n", 1, 5),
-        ("repartition 4 8 tally\n", "repartition 4 9 tally\n", 1, 6),
-        ("repartition 4 1 tally\n", "repartition 4 0 tally\n", 1, 6),
-        ("repartition 4 3 tally\n", "repartition 4 3 in\n", 1, 7),
-        ("repartition 4 3 tally\n", "repartition 4 3 out\n", 1, 7),
-        (
-            "repartition 2 3 tally\nrepartition 4 3 tally\n",
-            "repartition 4 2 tally\nrepartition 4 3 tally\n",
-            2,
-            8,
-        ),
-        ("kill written 2 0 out\n", "kill written 2 0 tally\n", 1, 10),
-        ("kill done 1 1 split\n", "kill done 1 2 split\n", 1, 9),
-        (
-            "repartition 2 3 split\n\nkill done 3 2 split\n",
-            "repartition 2 3 split\n\nkill done 2 2 split\n",
-            3,
-            9,
-        ),
-    ] {
-        assert_eq!(rt; refused(rt.alloc(), accepted)?, None, "at {accepted}");
-        assert_eq!(rt;
-            refused(rt.alloc(), refusal)?,
-            Some((line, why)),
-            "at {refusal}"
-        );
-    }
-    Ok(())
 }
 
 #[test]
