@@ -1,0 +1,7 @@
+//! The checkpoint store on a disk: a log of what was kept and dropped that a stop at any moment leaves readable.
+#![tactic(auto)]
+
+mod body;
+mod vault_log;
+
+pub use vault_log::VaultLog;
