@@ -5,3 +5,6 @@ mod body;
 mod vault_log;
 
 pub use vault_log::VaultLog;
+
+#[cfg(test)]
+mod tests;
