@@ -7,6 +7,7 @@ use std::alloc::AllocError;
 /// Some of a window's messages, spelled one behind the other.
 #[derive(Debug, Drop)]
 pub struct Block {
+    /// The window, from 1.
     pub window: u32,
     /// The blocks of a window count from 0.
     pub index: u32,

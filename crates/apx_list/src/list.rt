@@ -50,21 +50,35 @@ pub enum ListFault<F> {
 /// A list of blocks, numbered from 0 since it was made.
 ///
 /// It has the blocks of the windows above `floor` up to `top`, and those so far of the window after.
+///
+/// ```
+/// for block in cut(alloc, &plan, window, &rows)? {
+///     list.append(block)?;
+/// }
+/// let newest = list.next() - 1;
+/// let read = list.read(newest)?;
+/// ```
 #[derive(Drop)]
 pub struct DataList<S: Spool + Drop, N: Naming + Drop> {
+    /// Whose list it is.
     name: N,
+    /// How its windows are cut into blocks.
     plan: CutPlan,
+    /// Where old blocks may go.
     spool: S,
-    // the windows up to this one were purged, and those up to `top` are whole
+    /// The windows up to this one were purged.
     floor: u32,
+    /// The last whole window.
     top: u32,
-    // the number of the oldest block kept
+    /// The number of the oldest block kept.
     first: u64,
+    /// The blocks that are kept, the oldest first.
     blocks: VecDeque<Block>,
-    // the number of block 0 of each window since the list was made, whose first is that after `from`
+    /// The window before the first of `starts`.
     from: u32,
+    /// The number of block 0 of each window since the list was made.
     starts: Vec<u64>,
-    // the number of block 0 of the window after `top`
+    /// The number of block 0 of the window after `top`.
     next_start: u64,
 }
 
