@@ -313,10 +313,14 @@ module _ (job : Job) (order : List ℕ) (o : IsOrder job.flow.nodes order) (grap
       let named = named_at l h in
       let p = both (history.splits (act_in line.act)) ((command_in nodes line).op == x) (sym (ap (splits_op x) (line_is l h)) ∙ s) in
       let act = split_at line.act p.0 in
-      let same : named.0 ≡ x = sym (ap (λ (q : Option ℕ). unwrap_or q (length nodes)) named.1) ∙ equal_at (command_in nodes line).op x p.1 in
-      (act.0, act.1, act.2, act.3,
-      sym (ap (λ (a : Act). window_of a) act.3) ∙ sym (ap (λ (c : commands.Line). c.window) (line_is l h)),
-      sym (ap (λ (a : Act). operator_of a) act.3) ∙ (named_there (operator_of line.act) named.0 named.1).1 ∙ ap (λ q. (node_at nodes q).name) same)
+      let same : named.0 ≡ x = sym (ap (λ (q : Option ℕ). unwrap_or q (length nodes)) named.1) ∙ equal_at (command_in nodes line).op x p.1 in (
+        act.0,
+        act.1,
+        act.2,
+        act.3,
+        sym (ap (λ (a : Act). window_of a) act.3) ∙ sym (ap (λ (c : commands.Line). c.window) (line_is l h)),
+        sym (ap (λ (a : Act). operator_of a) act.3) ∙ (named_there (operator_of line.act) named.0 named.1).1 ∙ ap (λ q. (node_at nodes q).name) same,
+      )
 
   -- no line repartitions an operator at a window at which an earlier one does
   once_before : (x k l : ℕ) → k < l → l < length job.script → splits_op x (history.line plan k) ≡ true → splits_op x (history.line plan l) ≡ true → (history.line plan k).window ≡ (history.line plan l).window → ⊥

