@@ -2,6 +2,7 @@
 use super::*;
 use apx_device::{Failed, Folder, Out, ReadRefusal, Spool, Spools};
 use apx_disk::{Disk, Records};
+use std::alloc::Global;
 use std::fs;
 use std::io::{self, ErrorKind, Read, Write};
 use std::test::Fail;
@@ -116,18 +117,27 @@ impl Write for Stubborn {
     }
 }
 
+/// What an output over the writer answers to three writes and its end, and how many faults it then has.
+fn answers<W: Write + Drop>(
+    alloc: Global,
+    writer: W,
+) -> ([Result<usize, Failed>; 3], Result<(), Failed>, u64) {
+    let mut out = RealOut::new(alloc, writer, 2);
+    let writes = [out.write(b"a"), out.write(b"bc"), out.write(b"d")];
+    let finished = out.finish();
+    (writes, finished, out.faults())
+}
+
 #[test]
 fn after_a_failed_write_nothing_more_is_written(rt: HostRuntime) {
     let mut writer = Stubborn {
         writes: 0,
         got: [0; 4],
     };
-    let mut out = RealOut::new(rt.alloc(), &mut writer, 2);
-    assert_eq!(rt; out.write(b"a"), Ok(1));
-    assert_eq!(rt; out.write(b"bc"), Err(Failed));
-    assert_eq!(rt; out.write(b"d"), Err(Failed));
-    assert_eq!(rt; out.finish(), Err(Failed));
-    assert_eq!(rt; out.faults(), 3);
+    let (writes, finished, faults) = answers(rt.alloc(), &mut writer);
+    assert_eq!(rt; writes, [Ok(1), Err(Failed), Err(Failed)]);
+    assert_eq!(rt; finished, Err(Failed));
+    assert_eq!(rt; faults, 3);
     assert_eq!(rt; writer.got, [0; 4]);
 }
 

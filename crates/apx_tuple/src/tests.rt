@@ -184,15 +184,3 @@ fn an_operator_starts_with_nothing(rt: HostRuntime) {
     assert_eq!(rt; progress.left.tuples().len(), 0);
     assert_eq!(rt; progress.right.tuples().len(), 0);
 }
-
-#[test]
-fn a_state_is_made_of_pairs_that_ascend(rt: HostRuntime) -> Result<(), Fail> {
-    let alloc = rt.alloc();
-    assert!(rt; State::from_ascending(alloc, Vec::new(alloc))?.is_empty());
-    let mut pairs = Vec::new(alloc);
-    pairs.push((Key::of(alloc, b"a")?, -2))?;
-    let state = State::from_ascending(alloc, pairs)?;
-    assert_eq!(rt; state.len(), 1);
-    assert_eq!(rt; state.get(&Key::of(alloc, b"a")?), Some(-2));
-    Ok(())
-}

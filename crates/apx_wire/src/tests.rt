@@ -238,19 +238,14 @@ fn a_payload_tells_its_number_and_its_length(rt: HostRuntime) {
 #[test]
 fn the_message_in_front_is_read_with_its_length(rt: HostRuntime) -> Result<(), Fail> {
     let alloc = rt.alloc();
+    let reset = Message::Reset(1_000_000_000);
+    assert_eq!(rt; first_message(alloc, 0, &WINDOW)?, Some((reset, 5)));
+    let begin = Message::Begin(FIRST);
+    assert_eq!(rt; first_message(alloc, 0, &WINDOW[5..])?, Some((begin, 9)));
     let row = payload(alloc, b"a", 2)?;
-    for (begins, message, len) in [
-        (0, Message::Reset(1_000_000_000), 5),
-        (5, Message::Begin(FIRST), 9),
-        (14, row, 16),
-        (46, Message::End(FIRST), 9),
-    ] {
-        let bytes = &WINDOW[begins..];
-        let found = first_message(alloc, 0, bytes)?;
-        assert_eq!(rt; found, Some((message, len)));
-        let cut = &bytes[..len.saturating_sub(1)];
-        assert_eq!(rt; first_message(alloc, 0, cut)?, None);
-    }
+    assert_eq!(rt; first_message(alloc, 0, &WINDOW[14..])?, Some((row, 16)));
+    assert_eq!(rt; first_message(alloc, 0, &WINDOW[14..29])?, None);
+    assert_eq!(rt; first_message(alloc, 0, &[])?, None);
     let told = first_message(alloc, 7, &[9]);
     assert_eq!(rt; told.err(), Some(WireFault::BadType { at: 7 }));
     Ok(())
