@@ -1,5 +1,6 @@
 pub mod Closing
 pub mod EachTuple
+pub mod Firsts
 pub mod Fronts
 pub mod Groups
 pub mod Laws

@@ -1,6 +1,5 @@
-use Rattle.std.proofs.Common.{◌≡◌, ◌∙◌, ◌&&◌, Bool, IfOk, filter, int_le, subst, sym, ap, to_z, of_z, w64, rules}
+use Rattle.std.proofs.Common.{◌≡◌, ◌∙◌, ◌&&◌, Bool, IfOk, filter, int_le, subst, sym, ap, rules}
 use Rattle.std.proofs.lemmas.Fn.{filter_same}
-use Rattle.std.proofs.lemmas.Int.{to_z-of_z}
 use Rattle.apx_order.specs.Sorted.{IsAscending}
 use Rattle.apx_order.proofs.Once.{filter-ascends}
 use Rattle.apx_tuple.specs.declared.tuple.Tuple.{Tuple}
