@@ -7,7 +7,7 @@ ghost use Rattle.apx_tuple.specs.Tuple.{bag_of, tuple_key, tuple_order, IsBag};
 ghost use Rattle.apx_order.specs.Sorted.{IsAscending};
 
 use crate::refusal::Short;
-use crate::size::is_large;
+use crate::size::tuples_size;
 use crate::tuple::Tuple;
 use std::alloc::{AllocError, Global};
 use std::marker::Model;
@@ -23,6 +23,8 @@ use std::marker::Model;
 pub struct Bag {
     /// The tuples, in order.
     tuples: Vec<Tuple>,
+    /// Over the tuples, the length of each one's key and 10.
+    size: u64,
 }
 
 impl Model for Bag {
@@ -31,11 +33,13 @@ impl Model for Bag {
 
     ghost Value = { List Tuple };
 
-    ghost use Rattle.apx_tuple.specs.Tuple.{IsBag};
+    ghost use Rattle.std.specs.Prelude.{◌≡◌};
+    ghost use Rattle.apx_tuple.specs.Size.{size_by};
+    ghost use Rattle.apx_tuple.specs.Tuple.{tuple_key, IsBag};
 
     ghost view = { λ b. b.tuples.items };
 
-    ghost invariant = { λ b. IsBag b.tuples.items };
+    ghost invariant = { λ b. (b.size ≡ size_by tuple_key b.tuples.items) × IsBag b.tuples.items };
 }
 
 impl Bag {
@@ -45,6 +49,7 @@ impl Bag {
     {
         Bag {
             tuples: Vec::new(alloc),
+            size: 0,
         }
     }
 
@@ -57,10 +62,10 @@ impl Bag {
         ensures small { OnOk result (size_by tuple_key tuples.items < 4294967232) }
         ensures large { IfErr result (λ short. (short ≡ Short.Large) × IsLarge tuple_key tuples.items) }
     {
-        if is_large(tuples.as_slice()) {
+        let Some(size) = tuples_size(tuples.as_slice()) else {
             return Err(Short::Large);
-        }
-        Ok(Bag { tuples })
+        };
+        Ok(Bag { tuples, size })
     }
 
     /// The bag of these tuples.
@@ -71,11 +76,12 @@ impl Bag {
         ensures small { OnOk result (size_by tuple_key (bag_of tuples.items) < 4294967232) }
         ensures large { result ≡ Err Short.Large → IsLarge tuple_key (bag_of tuples.items) }
     {
-        if is_large(&tuples) {
+        let Some(size) = tuples_size(&tuples) else {
             return Err(Short::Large);
-        }
+        };
         Ok(Bag {
             tuples: in_order(tuples)?,
+            size,
         })
     }
 
@@ -96,7 +102,16 @@ impl Bag {
     {
         Ok(Bag {
             tuples: copied(alloc, &self.tuples)?,
+            size: self.size,
         })
+    }
+
+    /// Over the tuples, the length of each one's key and 10. No tuple is looked at.
+    pub fn size(&self) -> u64
+        ensures size { result ≡ size_by tuple_key self.now }
+        ensures bag { IsBag self.now }
+    {
+        self.size
     }
 
     /// The tuples, in ascending order.

@@ -1,5 +1,6 @@
 //! What an operator carries from window to window.
 ghost use Rattle.std.specs.Prelude.{◌≡◌, []};
+ghost use Rattle.apx_tuple.specs.Progress.{progress_size};
 
 use crate::bag::Bag;
 use crate::state::State;
@@ -31,5 +32,12 @@ impl Progress {
             left: Bag::new(alloc),
             right: Bag::new(alloc),
         }
+    }
+
+    /// The sizes of the state and of the two bags together. No key is looked at.
+    pub fn size(&self) -> u64
+        ensures { result ≡ progress_size self.now }
+    {
+        self.state.size() + self.left.size() + self.right.size()
     }
 }

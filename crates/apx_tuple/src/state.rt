@@ -80,6 +80,14 @@ impl State {
         self.entries.len()
     }
 
+    /// Over the keys, their length and 10. No key is looked at.
+    pub fn size(&self) -> u64
+        ensures size { result ≡ size_by pair_key self.now }
+        ensures state { IsState self.now }
+    {
+        self.size
+    }
+
     /// Whether nothing is kept.
     pub fn is_empty(&self) -> bool
         ensures { result ≡ (length self.now == 0) }

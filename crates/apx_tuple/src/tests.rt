@@ -184,3 +184,19 @@ fn an_operator_starts_with_nothing(rt: HostRuntime) {
     assert_eq!(rt; progress.left.tuples().len(), 0);
     assert_eq!(rt; progress.right.tuples().len(), 0);
 }
+
+#[test]
+fn sizes_count_each_key_and_ten_more(rt: HostRuntime) -> Result<(), Fail> {
+    let alloc = rt.alloc();
+    let mut tuples = Vec::new(alloc);
+    tuples.push(tuple(alloc, "ab", 1)?)?;
+    let left = Bag::of(tuples)?;
+    assert_eq!(rt; left.size(), 12);
+    let progress = Progress {
+        state: two_keys(alloc)?,
+        left,
+        right: Bag::new(alloc),
+    };
+    assert_eq!(rt; progress.size(), 34);
+    Ok(())
+}

@@ -1,6 +1,5 @@
-use Rattle.std.proofs.Common.{◌≡◌, ◌-◌, ◌∙◌, sym, ap, arith, false, get_or}
+use Rattle.std.proofs.Common.{◌-◌, ◌∙◌, sym, ap, arith}
 use Rattle.std.specs.Ordering.{is_gt}
-use Rattle.std.proofs.lemmas.List.{get_or_default}
 use Rattle.std.proofs.lemmas.List.Sorted.{all_adjacent_more}
 use Rattle.apx_tuple.proofs.Orders.{IsStep, steps-ascend, same-step}
 use Rattle.apx_tuple.proofs.bag.ascends.Goals as goal

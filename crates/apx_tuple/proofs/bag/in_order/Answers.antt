@@ -1,4 +1,4 @@
-use Rattle.std.proofs.Common.{sym, ◌∙◌, ap, subst}
+use Rattle.std.proofs.Common.{sym, subst}
 use Rattle.apx_order.specs.Sorted.{IsAscending}
 use Rattle.apx_order.proofs.Sorting.{sorted-by-sort, sorted-of-ascending}
 use Rattle.std.proofs.lemmas.List.Sorted.{IsPermutation-trans}

@@ -1,4 +1,4 @@
-use Rattle.std.proofs.Common.{◌≡◌, ◌+◌, ◌*◌, arith, sym, ◌∙◌, ap}
+use Rattle.std.proofs.Common.{◌≡◌, arith, sym, ◌∙◌, ap}
 use Rattle.apx_tuple.specs.Key.{first_bytes}
 use Rattle.apx_tuple.proofs.Fronts.{byte-fits, byte-more, first_bytes-more, first_bytes-none}
 use Rattle.apx_tuple.proofs.key.front_of.Goals as goal

@@ -1,4 +1,4 @@
-use Rattle.std.proofs.Common.{length, arith, ap, ◌∙◌, sym, Some, None, refl, w64, to_z, of_z}
+use Rattle.std.proofs.Common.{length, arith, ap, ◌∙◌, Some, refl, w64, to_z, of_z}
 use Rattle.apx_tuple.specs.Size.{size_by}
 use Rattle.apx_tuple.specs.State.{pair_key}
 use Rattle.apx_tuple.proofs.Sizes.{with_entry-written, size_by-with_entry-old, size_by-put-new}

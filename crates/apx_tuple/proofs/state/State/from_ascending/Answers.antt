@@ -1,9 +1,6 @@
-use Rattle.std.proofs.Common.{◌≡◌, ◌∙◌, sym, ap, subst, arith}
-use Rattle.std.specs.List.Sorted.{IsStrictlySortedBy}
-use Rattle.std.specs.Map.{keys_of}
+use Rattle.std.proofs.Common.{◌≡◌, ◌∙◌, sym, ap, arith}
 use Rattle.apx_tuple.specs.Size.{size_by}
-use Rattle.apx_tuple.specs.State.{Pair, pair_key}
-use Rattle.apx_tuple.specs.Tuple.{key_order}
+use Rattle.apx_tuple.specs.State.{pair_key}
 use Rattle.apx_tuple.proofs.Ascending.{collected}
 use Rattle.apx_tuple.proofs.state.State.from_ascending.Goals as goal
 

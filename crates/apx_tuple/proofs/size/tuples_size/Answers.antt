@@ -1,7 +1,7 @@
 use Rattle.std.proofs.Common.{◌+◌, length, arith, ap}
 use Rattle.apx_tuple.specs.Tuple.{tuple_key}
 use Rattle.apx_tuple.proofs.Sizes.{size_by-more, size_by-take-le}
-use Rattle.apx_tuple.proofs.size.is_large.Goals as goal
+use Rattle.apx_tuple.proofs.size.tuples_size.Goals as goal
 
 pub returns-then-size-ge-LARGE-clause-large : goal.returns-then-size-ge-LARGE-clause-large
 returns-then-size-ge-LARGE-clause-large c =
