@@ -60,6 +60,18 @@ fn a_file_is_read_up_to_its_limit(rt: HostRuntime) -> Result<(), Fail> {
 }
 
 #[test]
+fn a_file_takes_the_place_of_one_of_its_name(rt: HostRuntime) -> Result<(), Fail> {
+    let alloc = rt.alloc();
+    let mut folder = folder(alloc)?;
+    folder.add(alloc, "in.txt", [4, 5].to_vec(alloc)?)?;
+    assert_eq!(rt;
+        folder.read(alloc, "in.txt", 3)?.as_slice(),
+        [4, 5].as_slice()
+    );
+    Ok(())
+}
+
+#[test]
 fn the_first_read_fails_alone(rt: HostRuntime) -> Result<(), Fail> {
     let alloc = rt.alloc();
     let mut folder = FailingFolder::new(folder(alloc)?, [1].to_vec(alloc)?);
