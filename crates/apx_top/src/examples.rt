@@ -1,5 +1,5 @@
 //! The applications of the folder examples/, from the text of their files, with the rows that their pages show.
-//! `tools/examples` checks that these are the texts.
+//! `tools/examples` checks that these are the texts, and `tools/examples --write` writes them.
 use super::*;
 use apx_device::{MemoryFolder, MemoryKeeper, MemoryOut};
 use std::alloc::{AllocError, Global};
