@@ -8,3 +8,4 @@ pub mod Outlook
 pub mod Listed
 pub mod Picked
 pub mod Sample
+pub mod Memory

@@ -1,10 +1,11 @@
 //! What an event changes.
-ghost use Rattle.std.specs.Prelude.{◌≡◌, ℕ, ◌<◌, ◌≤◌, Bool, true, false, cond, length, get_or, set, replicate, IfOk, OnOk, OnErr};
+ghost use Rattle.std.specs.Prelude.{◌≡◌, ℕ, ◌<◌, ◌≤◌, Bool, true, false, cond, length, get_or, set, replicate, IfOk, IsOk, OnOk, OnErr};
 ghost use Rattle.apx_history.specs.Plan.{line as line_at, splits as splits_act, count_or, kills as kills_at, below};
 ghost use Rattle.apx_history.specs.State.{State, Slot, Oper, oper, slot, parts, IsPart, is_left, fresh, map_from, put as put_slot, map_slots};
 ghost use Rattle.apx_history.specs.Effects.{saves, trimmed, back, back_in, meet, split, next};
 ghost use Rattle.apx_history.specs.Conditions.{Enabled};
 ghost use Rattle.apx_machine.specs.Changed.{changed, split_by, gone_back};
+ghost use Rattle.apx_machine.specs.Memory.{takes_memory};
 
 use crate::engine::Engine;
 use crate::group::Group;
@@ -133,6 +134,7 @@ impl Engine {
         ensures plan { self.new.plan ≡ self.old.plan }
         ensures ok { OnOk result (self.new.state ≡ next self.old.plan self.old.state worker event) }
         ensures err { OnErr result (self.new.state ≡ self.old.state) }
+        ensures free { takes_memory event ≡ false → IsOk result }
     {
         match event {
             Event::Start { op, part, window } => {

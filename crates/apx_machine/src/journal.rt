@@ -39,6 +39,13 @@ impl Journal {
         }
     }
 
+    /// The journal of a run in which this happened, in this order.
+    pub fn of(entries: Vec<Entry>) -> Journal
+        ensures { result ≡ entries.items }
+    {
+        Journal { entries }
+    }
+
     /// Adds what happened next. For want of memory the journal stays as it is.
     pub fn add(&mut self, entry: Entry) -> Result<(), AllocError>
         ensures ok { OnOk result (self.new ≡ self.old ++ entry ∷ []) }

@@ -1,18 +1,20 @@
 //! The machine of a run.
-ghost use Rattle.std.specs.Prelude.{◌≡◌, ◌≤◌, ◌<◌, true, length, get_or, IfOk, IfSome, OnOk, OnErr};
+ghost use Rattle.std.specs.Prelude.{◌≡◌, ◌≤◌, ◌<◌, true, false, length, get_or, IfOk, IfSome, IsOk, OnOk, OnErr};
+ghost use Rattle.apx_history.specs.Plan.{line as line_at};
 ghost use Rattle.apx_history.specs.State.{oper, parts, slot, IsPart, running};
-ghost use Rattle.apx_history.specs.Enabled.{can};
+ghost use Rattle.apx_history.specs.Enabled.{can, in_tree};
 ghost use Rattle.apx_history.specs.Effects.{next};
 ghost use Rattle.apx_history.specs.Journals.{beginning};
 ghost use Rattle.apx_history.specs.Choices.{choices};
 ghost use Rattle.apx_history.specs.Kept.{IsPlan, IsStart, Kept};
 ghost use Rattle.apx_history.specs.declared.Event.TheVariants.{End};
 ghost use Rattle.apx_machine.specs.Small.{IsSmall};
+ghost use Rattle.apx_machine.specs.Memory.{takes_memory};
 ghost use Rattle.apx_machine.specs.Picked.{may_do, first_for};
 
 use crate::engine::Engine;
 use crate::plan::Plan;
-use apx_history::Event;
+use apx_history::{Event, Line};
 use std::alloc::{AllocError, Global};
 use std::marker::Model;
 
@@ -115,6 +117,7 @@ impl Machine {
         ensures plan { self.new.plan ≡ self.old.plan }
         ensures ok { OnOk result (self.new.state ≡ next self.old.plan self.old.state worker event) }
         ensures err { OnErr result (self.new.state ≡ self.old.state) }
+        ensures free { takes_memory event ≡ false → IsOk result }
     {
         self.engine.apply(alloc, worker, event)
     }
@@ -126,6 +129,27 @@ impl Machine {
         ensures kept { Kept self.now.plan self.now.state }
     {
         let _ = &self.engine;
+    }
+
+    /// The plan that it runs.
+    pub fn plan(&self) -> &Plan
+        ensures { result.now ≡ self.now.plan }
+    {
+        self.engine.plan()
+    }
+
+    /// A line of the script, and one that does nothing where it isn't there.
+    pub fn line(&self, line: usize) -> Line
+        ensures { result ≡ line_at self.now.plan line }
+    {
+        self.engine.line(line)
+    }
+
+    /// Whether a partition is in the tree of a line: it is the one that the line names, or its operator is downstream of that one's.
+    pub fn in_tree(&self, line: usize, op: usize, part: usize) -> bool
+        ensures { result ≡ in_tree self.now.plan line op part }
+    {
+        self.engine.in_tree(line, op, part)
     }
 
     /// Whether the run goes on.
