@@ -9,6 +9,7 @@ pub mod Placing
 pub mod Ranges
 pub mod Repeats
 pub mod Roles
+pub mod Sinks
 pub mod Sources
 pub mod Validity
 pub mod Walk

@@ -5,6 +5,8 @@ ghost use Rattle.std.specs.Str.{bytes_eq};
 ghost use Rattle.apx_pass.specs.Graph as graph;
 ghost use Rattle.apx_pass.specs.Graph.{node_at};
 ghost use Rattle.apx_pass.specs.Order.{order_of, IsOrder};
+ghost use Rattle.apx_pass.specs.Pass.{inputs_before, sink_of};
+ghost use Rattle.apx_pass.specs.Valid.{IsValid};
 ghost use Rattle.apx_dag.specs.Dag.{nodes_in, key_texts, node_names};
 ghost use Rattle.apx_dag.specs.Graph.{node_by, graph_of, sources_in, Answers};
 ghost use Rattle.apx_dag.specs.Names.{named_again};
@@ -187,6 +189,33 @@ impl Dag {
     {
         let number = self.nodes.get_index_of(name)?;
         Some(number as u16)
+    }
+
+    /// How many of the operators before one are inputs.
+    pub fn inputs_before(&self, op: u16) -> usize
+        requires { op ≤ length self.now }
+        ensures { result ≡ inputs_before self.now op }
+    {
+        let mut count = 0;
+        for other in 0..op {
+            if self.node(other).is_input() {
+                count += 1;
+            }
+        }
+        count
+    }
+
+    /// The number of the sink.
+    pub fn sink(&self) -> u16
+        ensures number { result ≡ sink_of self.now }
+        ensures valid { IsValid self.now }
+    {
+        for op in 0..self.len() {
+            if self.node(op).is_sink() {
+                return op;
+            }
+        }
+        self.len()
     }
 
     /// The operators' numbers in an order in which they can step: each once,

@@ -1,5 +1,8 @@
 //! An operator of a graph.
 
+ghost use Rattle.std.specs.Prelude.{◌≡◌};
+ghost use Rattle.apx_pass.specs.Graph.{is_input, is_sink};
+
 use crate::role::Role;
 use apx_json::Name;
 use std::marker::Model;
@@ -36,4 +39,20 @@ impl Model for Node {
       right = n.right;
       app_windows = n.app_windows;
     } };
+}
+
+impl Node {
+    /// Whether it is an input.
+    pub fn is_input(&self) -> bool
+        ensures { result ≡ is_input self.now.role }
+    {
+        matches!(self.role, Role::Input { .. })
+    }
+
+    /// Whether it is the sink.
+    pub fn is_sink(&self) -> bool
+        ensures { result ≡ is_sink self.now.role }
+    {
+        matches!(self.role, Role::Sink)
+    }
 }

@@ -22,7 +22,8 @@ use Rattle.apx_pass.specs.Order.{IsOrder, sources, stands_in, reads, is_below}
 use Rattle.apx_pass.specs.Pass.{windows, sink_of}
 use Rattle.apx_pass.specs.Script.{Point, Before, Staged, Written, Done, Act, Kill, Repartition, Line, RefusedLine}
 use Rattle.apx_dag.specs.Valid.{IsNode, IsGraph, IsEndpoint}
-use Rattle.apx_job.specs.Job.{Job, operator_of, window_of, number_of, command_in, point_in, act_in, operator_in, plan_of, boundary_of, in_force, splits_at, split_reason, is_written, act_reason, named_reason, reason, kills_nobody, late_reason, first_refused_behind, refused_line}
+use Rattle.apx_pass.specs.Job.{Job}
+use Rattle.apx_job.specs.Job.{operator_of, window_of, number_of, command_in, point_in, act_in, operator_in, plan_of, boundary_of, in_force, splits_at, split_reason, is_written, act_reason, named_reason, reason, kills_nobody, late_reason, first_refused_behind, refused_line}
 use Rattle.apx_job.proofs.Downstream as graphs
 
 -- ---- tests
@@ -344,6 +345,22 @@ module _ (job : Job) (order : List ℕ) (o : IsOrder job.flow.nodes order) (grap
       let first : k < l → ⊥ = λ before. once_before x k l before i s t same in
       let second : l < k → ⊥ = λ before. once_before x l k before h t s (sym same) in
       omega (arith, first, second)
+
+  -- no repartition gives more than 8 partitions
+  count_of : (earlier : List Line) (act : Act) (x : ℕ) → act_reason job earlier x act ≡ None → count_or 0 (act_in act) ≤ 8
+  count_of earlier (Kill point window part name) x h = omega arith
+  count_of earlier (Repartition window count name) x h = (split_of earlier x window count name h).2
+
+  pub counted : (l : ℕ) → l < length plan.lines → count_or 0 (history.line plan l).act ≤ 8
+  counted l h =
+      let m : l < length job.script = (let e = long in omega arith) in
+      let line = get_or job.script l nothing in
+      let named = named_at l m in
+      let w = windowed (take l job.script) line.act named.0 named.2 in
+      subst (λ (c : commands.Line). count_or 0 c.act ≤ 8) (sym (line_is l m)) (count_of (take l job.script) line.act named.0 w.2)
+
+  pub as_long : length plan.lines ≡ length job.script
+  as_long = long
 
   pub is-plan : IsPlan plan
   is-plan = record {

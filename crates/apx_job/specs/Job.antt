@@ -1,4 +1,4 @@
--- Jobs: a dataflow with its script and its settings, and the lines of a script that a job refuses.
+-- What a job says of a run: the plan of its histories, the epochs of its operators, and the lines of its script that it refuses.
 --
 -- Operators go by their number in the file, from 0, and windows count from 1. An epoch of an operator is the windows
 -- between two of its boundaries, which are 0 and the windows of its repartitions.
@@ -19,28 +19,9 @@ use Rattle.apx_history.specs.Plan as history
 use Rattle.apx_history.specs.Plan.{Plan}
 use Rattle.apx_pass.specs.Graph.{Node, node_at, is_input, is_sink}
 use Rattle.apx_pass.specs.Order.{sources, is_below}
-use Rattle.apx_pass.specs.Pass.{Dataflow, windows, inputs_before, sink_of}
+use Rattle.apx_pass.specs.Job.{Job}
+use Rattle.apx_pass.specs.Pass.{windows, inputs_before, sink_of}
 use Rattle.apx_pass.specs.Script.{Point, Before, Staged, Written, Done, Act, Kill, Repartition, Line, RefusedLine}
-
--- what a run is told beside its files
-pub record Settings : Type 0 where
-  -- the second that the first window's identifier bears
-  pub base : ℕ
-  -- the windows from one checkpoint to the next
-  pub every : ℕ
-  -- the most bytes of a block
-  pub block : ℕ
-  -- the blocks of a list that stay in memory
-  pub keep : ℕ
-
--- a dataflow, the commands that a run of it is to meet, and its settings
-pub record Job : Type 0 where
-  -- the graph, and what its inputs read
-  pub flow : Dataflow
-  -- the commands, in the order of the script
-  pub script : List Line
-  -- what the run is told beside its files
-  pub settings : Settings
 
 -- ---- what the histories of a run need
 

@@ -6,7 +6,8 @@ use Rattle.apx_pass.specs.Graph.{Node}
 use Rattle.apx_pass.specs.Groups.{Input}
 use Rattle.apx_pass.specs.Pass.{windows, inputs_before}
 use Rattle.apx_pass.specs.Script.{Line}
-use Rattle.apx_job.specs.Job.{Settings, Job, command_in}
+use Rattle.apx_pass.specs.Job.{Settings, Job}
+use Rattle.apx_job.specs.Job.{command_in}
 
 -- the settings
 abbrev pub settings_view : code.Settings → Settings

@@ -1,7 +1,8 @@
 -- What is refused of a script for its job.
 use Rattle.std.specs.Prelude.{◌≡◌, Option, Some, None, Result, Ok, Err, ⊤}
 use Rattle.apx_pass.specs.Script.{RefusedLine}
-use Rattle.apx_job.specs.Job.{Job, refused_line}
+use Rattle.apx_pass.specs.Job.{Job}
+use Rattle.apx_job.specs.Job.{refused_line}
 use Rattle.apx_script.specs.declared.refusal.ScriptRefusal.{ScriptRefusal}
 use Rattle.apx_script.specs.declared.refusal.ScriptRefusal.TheVariants as refusal
 

@@ -3,6 +3,7 @@
 use crate::judge::judge;
 use crate::parts::Parts;
 use apx_dag::Dag;
+use apx_history::Line as Command;
 use apx_input::Windows;
 use apx_script::{Line, Script, ScriptRefusal, Settings};
 use apx_tuple::Bag;
@@ -22,10 +23,11 @@ pub struct Job {
 }
 
 impl Model for Job {
+    ghost use Rattle.apx_pass.specs.Job as pass;
     ghost use Rattle.apx_job.specs.Job as job;
     ghost use Rattle.apx_script.specs.Settings.{IsSettings};
 
-    ghost Value = { job.Job };
+    ghost Value = { pass.Job };
 
     ghost view = { λ j. j.parts };
 
@@ -35,10 +37,11 @@ impl Model for Job {
 }
 
 impl Job {
-    ghost use Rattle.std.specs.Prelude.{◌≡◌, ◌<◌, ◌≤◌, length, IfOk, IsTrue};
+    ghost use Rattle.std.specs.Prelude.{◌≡◌, ℕ, ◌<◌, ◌≤◌, length, IfOk, IsTrue};
     ghost use Rattle.apx_pass.specs.Graph.{node_at, is_input};
     ghost use Rattle.apx_pass.specs.Pass.{inputs_before, windows, input_at, rows_of_input};
     ghost use Rattle.apx_history.specs.Kept.{IsPlan};
+    ghost use Rattle.apx_history.specs.Plan.{line, count_or};
     ghost use Rattle.apx_job.specs.Job.{IsJob, plan_of, boundary_of, in_force};
     ghost use Rattle.apx_script.specs.Settings.{IsSettings};
     ghost use Rattle.apx_job.specs.Prepared.{job_of, settings_view};
@@ -133,16 +136,27 @@ impl Job {
         self.parts.script.lines()
     }
 
+    /// The script's commands with the numbers of their operators, in order.
+    pub fn commands(&self) -> &[Command]
+        ensures { result.now ≡ (plan_of self.now).lines }
+    {
+        &self.parts.commands
+    }
+
     /// What histories ask of a plan holds of the plan of each job: a graph without loops, one sink that has one
-    /// partition, and commands that name what is there. A law; the function does nothing.
+    /// partition, and commands that name what is there. There are at most 1,000 commands, and none of them gives an
+    /// operator more than 8 partitions. A law; the function does nothing.
     pub fn is_planned(&self)
-        ensures { IsPlan (plan_of self.now) }
+        ensures plan { IsPlan (plan_of self.now) }
+        ensures counts { (l : ℕ) → l < length (plan_of self.now).lines → count_or 0 (line (plan_of self.now) l).act ≤ 8 }
+        ensures few { length (plan_of self.now).lines ≤ 1000 }
     {
         let dag = self.dag();
         let _operators = dag.len();
         let _places = dag.order().len();
         let _windows = self.windows();
         let _settings = self.settings();
+        let _lines = self.parts.script.lines();
     }
 
     /// The bag of the tuples of an input's window; no tuples where it has no such window.

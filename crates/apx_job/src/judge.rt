@@ -9,7 +9,7 @@ ghost use Rattle.apx_job.specs.Refusal.{Judges};
 
 use crate::command::{operator_of, window_of};
 use crate::parts::Parts;
-use apx_dag::{Dag, Role};
+use apx_dag::Dag;
 use apx_script::{Act, Line, Point, ScriptRefusal};
 
 /// Whether an act repartitions the operator with this name at this window.
@@ -40,18 +40,7 @@ fn is_end(dag: &Dag, op: u16) -> bool
     requires { op < length dag.now }
     ensures { result ≡ (is_input (node_at dag.now op).role || is_sink (node_at dag.now op).role) }
 {
-    match &dag.node(op).role {
-        Role::Input { .. } | Role::Sink => true,
-        Role::Inner(_) => false,
-    }
-}
-
-/// Whether the operator is the sink.
-fn is_sink(dag: &Dag, op: u16) -> bool
-    requires { op < length dag.now }
-    ensures { result ≡ is_sink (node_at dag.now op).role }
-{
-    matches!(&dag.node(op).role, Role::Sink)
+    dag.node(op).is_input() || dag.node(op).is_sink()
 }
 
 fn is_written(point: Point) -> bool
@@ -95,7 +84,7 @@ fn act_reason(parts: &Parts, earlier: &[Line], op: u16, act: &Act) -> Option<u8>
 {
     match act {
         Act::Kill { point, .. } => {
-            if is_written(*point) && !is_sink(&parts.dag, op) {
+            if is_written(*point) && !parts.dag.node(op).is_sink() {
                 Some(10)
             } else {
                 None

@@ -1,13 +1,12 @@
 //! What a job consists of, before it is judged.
 
 ghost use Rattle.std.specs.Prelude.{◌≡◌, ◌<◌, ◌≤◌, length, IfOk};
-ghost use Rattle.apx_pass.specs.Graph.{is_input};
-ghost use Rattle.apx_pass.specs.Pass.{inputs_before, windows_of};
+ghost use Rattle.apx_pass.specs.Pass.{windows_of};
 ghost use Rattle.apx_job.specs.Job.{boundary_of, in_force};
 ghost use Rattle.apx_job.specs.Prepared.{job_of};
 
 use crate::command::{boundary_in, commands_in, number_in};
-use apx_dag::{Dag, Node, Role};
+use apx_dag::Dag;
 use apx_history::Line as Command;
 use apx_input::Windows;
 use apx_script::{Script, Settings};
@@ -33,10 +32,10 @@ pub(crate) struct Parts {
 }
 
 impl Model for Parts {
-    ghost use Rattle.apx_job.specs.Job as job;
+    ghost use Rattle.apx_pass.specs.Job as pass;
     ghost use Rattle.apx_job.specs.Prepared.{job_of, ArePrepared};
 
-    ghost Value = { job.Job };
+    ghost Value = { pass.Job };
 
     ghost view = { λ p. job_of p.dag p.inputs.items p.script p.settings };
 
@@ -51,27 +50,6 @@ fn window_count(inputs: &[Windows]) -> u32
     let mut count = 0;
     for input in inputs {
         count = count.max(input.count());
-    }
-    count
-}
-
-/// Whether an operator is an input.
-pub(crate) fn is_input(node: &Node) -> bool
-    ensures { result ≡ is_input node.now.role }
-{
-    matches!(node.role, Role::Input { .. })
-}
-
-/// How many of the operators before one are inputs.
-pub(crate) fn inputs_before(dag: &Dag, op: u16) -> usize
-    requires { op ≤ length dag.now }
-    ensures { result ≡ inputs_before dag.now op }
-{
-    let mut count = 0;
-    for other in 0..op {
-        if is_input(dag.node(other)) {
-            count += 1;
-        }
     }
     count
 }
@@ -128,7 +106,7 @@ impl Parts {
         requires { op < length self.now.flow.nodes }
         ensures { IfOk result (λ bag. bag ≡ rows_of_input (input_at self.now.flow op) window) }
     {
-        match self.inputs.get(inputs_before(&self.dag, op)) {
+        match self.inputs.get(self.dag.inputs_before(op)) {
             Some(input) => input.bag(window),
             None => Ok(Bag::new(*self.inputs.allocator())),
         }

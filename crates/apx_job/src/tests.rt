@@ -1,7 +1,6 @@
 //! The order in which the lines of a script are judged, and the epochs that they make.
 
 use crate::Job;
-use crate::parts::{inputs_before, is_input};
 use apx_dag::Dag;
 use apx_input::windows;
 use apx_json::read_app;
@@ -21,7 +20,7 @@ fn job_of(alloc: Global, script: &str) -> Result<Result<Job, (u64, u8)>, Fail> {
     inputs.push(windows(alloc, InputKind::Lines, 1, b"a\nb\nc\nd\ne\nf\n")?)?;
     let mut settings = Settings::default();
     settings.every = 2;
-    if inputs.len() != inputs_before(&dag, dag.len()) {
+    if inputs.len() != dag.inputs_before(dag.len()) {
         return Err("another number of inputs")?;
     }
     match Job::of(
@@ -60,7 +59,7 @@ fn epoch(job: &Job, op: u16, window: u32) -> Option<(u32, u8)> {
 
 /// How many tuples an input has in a window.
 fn tuple_count(job: &Job, op: u16, window: u32) -> Result<Option<usize>, Fail> {
-    if op < job.dag().len() && is_input(job.dag().node(op)) {
+    if op < job.dag().len() && job.dag().node(op).is_input() {
         return Ok(Some(job.bag(op, window)?.tuples().len()));
     }
     Ok(None)

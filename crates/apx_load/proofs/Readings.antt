@@ -11,7 +11,7 @@ use Rattle.apx_pass.specs.Script.{Line}
 use Rattle.apx_script.specs.declared.settings.Settings.{Settings}
 use Rattle.apx_cmd.specs.declared.commands.Command.{Command}
 use Rattle.apx_cmd.specs.declared.commands.Command.TheVariants.{Check, Plan, Sim}
-use Rattle.apx_job.specs.Job.{Job}
+use Rattle.apx_pass.specs.Job.{Job}
 use Rattle.apx_load.specs.declared.refusal.Refusal.{Refusal}
 use Rattle.apx_load.specs.declared.refusal.Refusal.TheVariants.{NoFile, FileTooLong}
 use Rattle.apx_load.specs.Refusals.{Reading, by_files, by_answers, IsFileRefusal, IsApplication, IsApplicationRefusal, IsInputOf, IsInputRefusal, AreRead, AreInputs, IsInputsRefusal, IsAcceptedRun, IsRunRefusal}

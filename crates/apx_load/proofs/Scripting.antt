@@ -7,7 +7,8 @@ use Rattle.apx_device.specs.Folder.{Answer}
 use Rattle.apx_pass.specs.Pass.{Dataflow}
 use Rattle.apx_pass.specs.Script.{Line}
 use Rattle.apx_script.specs.declared.settings.Settings.{Settings}
-use Rattle.apx_job.specs.Job.{Job, refused_line}
+use Rattle.apx_pass.specs.Job.{Job}
+use Rattle.apx_job.specs.Job.{refused_line}
 use Rattle.apx_job.specs.Prepared.{job_of}
 use Rattle.apx_load.specs.declared.stop.Stop.{Stop}
 use Rattle.apx_load.specs.Refusals.{Reading, by_answers, IsAcceptedRun, IsRunRefusal}

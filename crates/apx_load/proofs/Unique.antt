@@ -23,7 +23,8 @@ use Rattle.apx_cmd.specs.declared.commands.Command.TheVariants.{Check, Plan, Sim
 use Rattle.apx_cmd.specs.Commands.{command_of}
 use Rattle.apx_pass.specs.Script.{Line, RefusedLine as RefusedScript, script_of}
 use Rattle.apx_script.specs.declared.settings.Settings.{Settings}
-use Rattle.apx_job.specs.Job.{Job, refused_line}
+use Rattle.apx_pass.specs.Job.{Job}
+use Rattle.apx_job.specs.Job.{refused_line}
 use Rattle.apx_job.specs.Prepared.{job_of}
 use Rattle.serde_json.specs.Data.{Data}
 use Rattle.apx_json.specs.Reading.{IsJson}

@@ -6,7 +6,7 @@ use Rattle.apx_pass.specs.Graph.{Node}
 use Rattle.apx_cmd.specs.declared.commands.Command.{Command}
 use Rattle.apx_cmd.specs.declared.commands.Command.TheVariants.{Check, Plan, Sim}
 use Rattle.apx_cmd.specs.Commands.{command_of}
-use Rattle.apx_job.specs.Job.{Job}
+use Rattle.apx_pass.specs.Job.{Job}
 use Rattle.apx_load.specs.declared.refusal.Refusal.{Refusal}
 use Rattle.apx_load.specs.declared.refusal.Refusal.TheVariants.{NotACommand, NotBuilt}
 use Rattle.apx_load.specs.Refusals.{Reading, IsApplication, IsApplicationRefusal}

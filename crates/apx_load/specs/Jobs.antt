@@ -6,7 +6,8 @@ use Rattle.std.specs.Prelude.{◌≡◌, ℕ, ◌⊎◌, List, [], Option, Some,
 use Rattle.apx_pass.specs.Pass.{Dataflow}
 use Rattle.apx_pass.specs.Script.{Line, script_of}
 use Rattle.apx_script.specs.declared.settings.Settings.{Settings}
-use Rattle.apx_job.specs.Job.{Job, refused_line}
+use Rattle.apx_pass.specs.Job.{Job}
+use Rattle.apx_job.specs.Job.{refused_line}
 use Rattle.apx_job.specs.Prepared.{job_of}
 use Rattle.apx_load.specs.declared.refusal.Refusal.{Refusal}
 use Rattle.apx_load.specs.declared.refusal.Refusal.TheVariants.{RefusedCommand, NotBuilt}

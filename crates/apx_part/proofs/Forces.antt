@@ -6,7 +6,8 @@ use Rattle.std.proofs.lemmas.Bool.Decides.{nat_tests}
 use borrow.Author.Tests.{eqb-true}
 use Rattle.apx_dag.specs.Valid.{IsGraph, IsNode, IsEndpoint}
 use Rattle.apx_history.specs.Plan.{number_in, splits, count_or}
-use Rattle.apx_job.specs.Job.{Job, IsJob, operator_of, window_of, number_of, command_in, act_in, boundary_of, in_force, split_reason, act_reason, named_reason, reason, first_refused_behind, refused_line}
+use Rattle.apx_pass.specs.Job.{Job}
+use Rattle.apx_job.specs.Job.{IsJob, operator_of, window_of, number_of, command_in, act_in, boundary_of, in_force, split_reason, act_reason, named_reason, reason, first_refused_behind, refused_line}
 use Rattle.apx_pass.specs.Graph.{Role, Input, Inner, Sink, Node, node_at, is_input, is_sink}
 use Rattle.apx_pass.specs.Script.{Act, Kill, Repartition, Line, RefusedLine}
 use Rattle.apx_shares.specs.Laws.{HasParts}

@@ -3,7 +3,8 @@ use Rattle.std.specs.Prelude.{⊤}
 use Rattle.std.proofs.Common.{◌≡◌, ℕ, zero, suc, ◌-◌, ◌≤◌, ◌<◌, Result, Ok, Err, Bool, true, false, cond, List, [], ◌∷◌, ◌++◌, length, slice_index, Option, refl, sym, ap, subst, ◌∙◌, IsTrue, arith}
 use Rattle.std.specs.Bool.{MatchBool}
 use Rattle.apx_dag.specs.Valid.{IsGraph}
-use Rattle.apx_job.specs.Job.{Job, IsJob, in_force}
+use Rattle.apx_pass.specs.Job.{Job}
+use Rattle.apx_job.specs.Job.{IsJob, in_force}
 use Rattle.std.specs.Prelude.{IfOk}
 use Rattle.apx_list.specs.declared.block.Block.{Block}
 use Rattle.apx_tuple.specs.declared.refusal.Short.{Short}

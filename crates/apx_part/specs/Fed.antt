@@ -7,7 +7,8 @@ use Rattle.apx_tuple.specs.declared.tuple.Tuple.{Tuple}
 use Rattle.apx_list.specs.declared.block.Block.{Block}
 use Rattle.apx_list.specs.declared.plan.CutPlan.{CutPlan}
 use Rattle.apx_list.specs.Window.{SpellWindow}
-use Rattle.apx_job.specs.Job.{Job, in_force}
+use Rattle.apx_pass.specs.Job.{Job}
+use Rattle.apx_job.specs.Job.{in_force}
 use Rattle.apx_pass.specs.Graph.{node_at}
 use Rattle.apx_pass.specs.Order.{OfPorts}
 use Rattle.apx_pass.specs.Pass.{windows}

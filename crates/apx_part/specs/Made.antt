@@ -11,7 +11,8 @@ use Rattle.apx_list.specs.declared.block.Block.{Block}
 use Rattle.apx_list.specs.declared.plan.CutPlan.{CutPlan}
 use Rattle.apx_list.specs.Cut.{blocks_of}
 use Rattle.apx_list.specs.Window.{SpellWindow}
-use Rattle.apx_job.specs.Job.{Job, in_force}
+use Rattle.apx_pass.specs.Job.{Job}
+use Rattle.apx_job.specs.Job.{in_force}
 use Rattle.apx_pass.specs.Graph.{Role, Input, Inner, Sink, Node, node_at, is_sink}
 use Rattle.apx_pass.specs.Groups as groups
 use Rattle.apx_pass.specs.Pass.{Passed, gather, input_at, rows_at}

@@ -1,5 +1,6 @@
 pub mod Graph
 pub mod Groups
+pub mod Job
 pub mod Large
 pub mod Lines
 pub mod Order

@@ -21,7 +21,7 @@ use Rattle.apx_cmd.specs.declared.refusal.CommandRefusal.TheVariants as unread_w
 use Rattle.apx_cmd.specs.Answers.{Answers}
 use Rattle.apx_cmd.specs.Commands.{command_of}
 use Rattle.apx_script.specs.declared.settings.Settings.{Settings}
-use Rattle.apx_job.specs.Job.{Job}
+use Rattle.apx_pass.specs.Job.{Job}
 use Rattle.apx_plan.specs.Plan.{plan_text}
 use Rattle.apx_load.specs.Refusals.{Reading, by_answers, by_files, IsFileRefusal, IsApplication, IsApplicationRefusal, IsInputRefusal, IsInputsRefusal, IsRunRefusal}
 use Rattle.apx_load.specs.Jobs.{IsScriptRefusal, IsScriptedRefusal, IsJobRefusal, IsRunJob, IsRunJobRefusal}

@@ -2,7 +2,7 @@
 use Rattle.std.proofs.Common.{◌≡◌, ℕ, List, [], inl, inr, Option}
 use Rattle.apx_device.specs.Folder.{Answer}
 use Rattle.apx_script.specs.declared.settings.Settings.{Settings}
-use Rattle.apx_job.specs.Job.{Job}
+use Rattle.apx_pass.specs.Job.{Job}
 use Rattle.apx_load.specs.declared.stop.Stop.{Stop}
 use Rattle.apx_load.specs.declared.stop.Stop.TheVariants.{Refused}
 use Rattle.apx_load.specs.declared.refusal.Refusal.TheVariants.{NotBuilt}

@@ -8,7 +8,7 @@ use Rattle.apx_pass.specs.Pass.{windows, mean}
 use Rattle.apx_pass.specs.Graph.{Node}
 use Rattle.apx_pass.specs.Groups.{Input}
 use Rattle.apx_mean.specs.Passing.{dataflow_of}
-use Rattle.apx_job.specs.Job.{Job}
+use Rattle.apx_pass.specs.Job.{Job}
 use Rattle.apx_pass.specs.Texts.{windows_text}
 use Rattle.apx_load.specs.declared.stop.Stop.{Stop}
 use Rattle.apx_load.specs.Stops.{IsCaused, no_causes}

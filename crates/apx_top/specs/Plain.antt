@@ -11,7 +11,7 @@ use Rattle.apx_load.specs.declared.refusal.Refusal.TheVariants.{NotACommand, Not
 use Rattle.apx_cmd.specs.declared.commands.Command.{Command}
 use Rattle.apx_cmd.specs.declared.commands.Command.TheVariants.{Check, Plan, Sim}
 use Rattle.apx_cmd.specs.Commands.{command_of}
-use Rattle.apx_job.specs.Job.{Job}
+use Rattle.apx_pass.specs.Job.{Job}
 use Rattle.apx_plan.specs.Plan.{plan_text}
 use Rattle.apx_load.specs.Refusals.{Reading, by_answers, IsApplication, IsApplicationRefusal}
 use Rattle.apx_load.specs.Jobs.{IsRunJob}

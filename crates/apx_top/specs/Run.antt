@@ -4,7 +4,7 @@ use Rattle.apx_device.specs.Out.{GotFront}
 use Rattle.apx_pass.specs.Pass.{Dataflow, windows, mean}
 use Rattle.apx_pass.specs.Texts.{windows_text}
 use Rattle.apx_script.specs.declared.settings.Settings.{Settings}
-use Rattle.apx_job.specs.Job.{Job}
+use Rattle.apx_pass.specs.Job.{Job}
 use Rattle.apx_load.specs.declared.stop.Stop.{Stop}
 use Rattle.apx_load.specs.Refusals.{by_answers}
 use Rattle.apx_load.specs.Jobs.{IsRunJob, IsRunJobRefusal}

@@ -1,7 +1,7 @@
 use Rattle.std.proofs.Common.{◌≡◌, ◌≤◌, ◌∙◌, ap, length, take, subst, IsTrue}
 use Rattle.apx_pass.specs.Pass.{Dataflow, mean}
 use Rattle.apx_pass.specs.Texts.{windows_text}
-use Rattle.apx_job.specs.Job.{Settings}
+use Rattle.apx_pass.specs.Job.{Settings}
 use Rattle.apx_top.specs.Sent.{HasWritten}
 use Rattle.apx_top.specs.Store.{HoldsPrefix}
 use Rattle.apx_top.specs.Changes.{store_change, output_change}
