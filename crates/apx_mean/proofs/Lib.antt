@@ -1,5 +1,4 @@
 pub mod Coming
 pub mod Gathering
 pub mod Keeping
-pub mod Sinks
 pub mod Turn

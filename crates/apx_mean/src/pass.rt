@@ -3,15 +3,14 @@ ghost use Rattle.std.specs.Prelude.{◌≡◌, ◌<◌, ◌≤◌, ◌+◌, ℕ,
 ghost use Rattle.std.specs.Option.{option_copied};
 ghost use Rattle.apx_pass.specs.Order.{IsBefore, IsOrder};
 ghost use Rattle.apx_pass.specs.Valid.{IsValid};
-ghost use Rattle.apx_pass.specs.Graph.{is_input, is_sink};
-ghost use Rattle.apx_pass.specs.Pass.{at_start, progress_after, rows_at, inputs_before, input_at, windows, sink_of};
+ghost use Rattle.apx_pass.specs.Pass.{at_start, progress_after, rows_at, input_at, windows};
 ghost use Rattle.apx_mean.specs.Kept.{AreKept};
 ghost use Rattle.apx_mean.specs.Passing.{dataflow_of};
 ghost use Rattle.apx_pass.specs.Large.{IsLargeDataflow};
 
 use crate::came::came;
 use crate::operator::pass_operator;
-use apx_dag::{Dag, Node, Role};
+use apx_dag::Dag;
 use apx_input::Windows;
 use apx_tuple::{Bag, Progress, Short};
 use std::alloc::{AllocError, Global};
@@ -66,7 +65,7 @@ impl<'a> OnePass<'a> {
         ensures { IfOk result (λ pass. pass ≡ record { flow = dataflow_of dag.now inputs.now; passed = 0 }) }
     {
         let order = dag.order();
-        let sink = place_of(order, order.len(), sink_number(dag));
+        let sink = place_of(order, order.len(), dag.sink());
         let progress = starts(alloc, order)?;
         Ok(OnePass {
             dag,
@@ -137,27 +136,13 @@ pub(crate) fn place_of(order: &[u16], count: usize, operator: u16) -> usize
     unreachable!()
 }
 
-/// How many of the operators before one are inputs.
-fn inputs_before(dag: &Dag, operator: u16) -> usize
-    requires { operator ≤ length dag.now }
-    ensures { result ≡ inputs_before dag.now operator }
-{
-    let mut count = 0;
-    for other in 0..operator {
-        if is_input(dag.node(other)) {
-            count += 1;
-        }
-    }
-    count
-}
-
 /// What an operator reads, where it is an input.
 #[tactic(auto, unfolding(apx_pass::specs::Pass::input_at))]
 fn input_of<'a>(dag: &Dag, inputs: &'a [Windows], operator: u16) -> Option<&'a Windows>
     requires { operator ≤ length dag.now }
     ensures { option_copied result ≡ input_at (dataflow_of dag.now inputs.now) operator }
 {
-    inputs.get(inputs_before(dag, operator))
+    inputs.get(dag.inputs_before(operator))
 }
 
 /// What each operator carries on from the window after `passed`, in the order, and the rows that are given in it: those of
@@ -193,31 +178,4 @@ fn pass_all(
         rows.push(made.rows)?;
     }
     Ok((carried, rows))
-}
-
-/// The number of the first sink, or how many operators there are where there is none.
-fn sink_number(dag: &Dag) -> u16
-    ensures number { result ≡ sink_of dag.now }
-    ensures valid { IsValid dag.now }
-{
-    for op in 0..dag.len() {
-        if is_sink(dag.node(op)) {
-            return op;
-        }
-    }
-    dag.len()
-}
-
-/// Whether an operator is the sink.
-fn is_sink(node: &Node) -> bool
-    ensures { result ≡ is_sink node.now.role }
-{
-    matches!(node.role, Role::Sink)
-}
-
-/// Whether an operator is an input.
-fn is_input(node: &Node) -> bool
-    ensures { result ≡ is_input node.now.role }
-{
-    matches!(node.role, Role::Input { .. })
 }

@@ -1,6 +1,0 @@
-use Rattle.std.proofs.Common.{◌≡◌, ◌+◌, drop}
-use Rattle.apx_pass.specs.Pass.{sink_of}
-use Rattle.apx_mean.proofs.pass.sink_number.Given as goal
-
-abbrev pub invariant-loop-op : goal.invariant-loop-op
-invariant-loop-op l = sink_of l.dag ≡ l.op + sink_of (drop l.op l.dag)
