@@ -1,0 +1,32 @@
+-- The name of a run.
+use Rattle.std.specs.Prelude.{ℕ, Bool, false, []}
+use Rattle.apx_history.specs.Plan.{Plan}
+
+-- what was fixed as a run began
+pub record Run : Type 0 where
+  -- the plan of its job
+  pub plan : Plan
+  -- all its devices tell what they hold
+  pub told : Bool
+  -- the last window that the sink's store had
+  pub stored : ℕ
+  -- the window behind which the run began
+  pub from : ℕ
+  -- how many faults the sink's store had counted
+  pub keeper : ℕ
+  -- how many faults the checkpoint store had counted
+  pub vault : ℕ
+  -- how many faults the maker of spools had counted
+  pub spools : ℕ
+
+-- a run without operators
+abbrev pub no_run : Run
+no_run = record {
+  plan = record { windows = 0; every = 0; sink = 0; operators = []; lines = [] };
+  told = false;
+  stored = 0;
+  from = 0;
+  keeper = 0;
+  vault = 0;
+  spools = 0;
+}
