@@ -7,7 +7,7 @@ use Rattle.apx_list.specs.Block.{Spells, AllSpell}
 use Rattle.apx_list.specs.Cut.{numbered}
 use Rattle.apx_list.specs.Listed.{Listed, before, IsNext, with_block}
 use Rattle.apx_list.proofs.Pieces.{length-numbered}
-use Rattle.apx_list.proofs.Kept.{AllSpell-get, slice_get-is, before-append}
+use Rattle.apx_list.proofs.Numbers.{AllSpell-get, slice_get-is, before-append}
 
 pub AllSpell-at : (plan : CutPlan) (blocks : List Block) (i : ℕ) (block : Block) → AllSpell plan blocks → i < length blocks → block ≡ get_or blocks i block → Spells plan block
 AllSpell-at plan blocks i block spell there is = AllSpell-get plan blocks i block spell (slice_get-is blocks i block there is)

@@ -1,6 +1,6 @@
 -- Messages that are read one after the other, and their tuples.
-use Rattle.std.proofs.Common.{◌≡◌, ℕ, zero, suc, ◌+◌, ◌%◌, ◌<◌, ◌≢◌, List, Option, Some, None, eq-eqb, [], ◌∷◌, ◌++◌, length, map, refl, sym, ap, ◌∙◌, arith, Bool, true, false, cond, eqb, append_assoc, length-append, inl, inr}
-use Rattle.std.specs.Prelude.{filter, bit_and, ◌==◌}
+use Rattle.std.proofs.Common.{◌≡◌, ℕ, zero, suc, ◌<◌, ◌≢◌, List, Option, Some, None, eq-eqb, [], ◌∷◌, ◌++◌, length, map, refl, sym, ap, ◌∙◌, arith, Bool, true, false, cond, eqb, append_assoc, length-append, inl, inr}
+use Rattle.std.specs.Prelude.{◌==◌}
 use Rattle.std.proofs.lemmas.List.{append-nil}
 use Rattle.apx_codec.specs.KeyNumber.{hash_of, number_owner, owner_of}
 use Rattle.apx_wire.specs.Judging.{head_of}

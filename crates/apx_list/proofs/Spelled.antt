@@ -18,7 +18,7 @@ use Rattle.apx_list.specs.Messages.{opening, closing, reset, checkpoint, stop, i
 use Rattle.apx_list.specs.Block.{AreMessages, AreSome, Spells, AllSpell}
 use Rattle.apx_list.specs.Window.{IsAt, SpellRest, SpellWindow}
 use Rattle.apx_list.specs.Cut.{pieces_from, pieces_of, numbered, blocks_of}
-use Rattle.apx_list.proofs.Kept.{slice_get-is}
+use Rattle.apx_list.proofs.Numbers.{slice_get-is}
 
 -- ---- rows of messages
 
@@ -252,12 +252,12 @@ if_message : (b : Bool) (m : Message) → IsMessage m → AreMessages (cond b (m
 if_message true m fits = (fits, tt)
 if_message false m fits = tt
 
-AreMessages-opening : (plan : CutPlan) (window : ℕ) → IsPlan plan → IsWindow plan window → AreMessages (opening plan window)
+pub AreMessages-opening : (plan : CutPlan) (window : ℕ) → IsPlan plan → IsWindow plan window → AreMessages (opening plan window)
 AreMessages-opening plan window is in_run =
     let fits = id_fits plan window is in_run in
     AreMessages-append (reset plan window) (Begin (id_of plan window) ∷ []) (if_message _ (Reset (second_of plan.base window)) fits.1) (fits.0, tt)
 
-AreMessages-closing : (plan : CutPlan) (window : ℕ) → IsPlan plan → IsWindow plan window → AreMessages (closing plan window)
+pub AreMessages-closing : (plan : CutPlan) (window : ℕ) → IsPlan plan → IsWindow plan window → AreMessages (closing plan window)
 AreMessages-closing plan window is in_run =
     let fits = id_fits plan window is in_run in
     AreMessages-append (End (id_of plan window) ∷ checkpoint plan window) (stop plan window) (fits.0, if_message _ (Checkpoint (id_of plan window)) fits.0) (if_message _ EndOfStream tt)

@@ -1,6 +1,8 @@
 pub mod Block
+pub mod Checking
 pub mod Cut
 pub mod Cutter
+pub mod Kept
 pub mod Listed
 pub mod Messages
 pub mod Plan

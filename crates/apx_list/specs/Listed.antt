@@ -160,6 +160,8 @@ pub record IsKept (told : Option (List Block)) (plan : CutPlan) (floor top first
   pub spelled : AllSpell plan blocks
   -- the windows ascend from that after the floor to that after the top
   pub within : IsWithin (floor + 1) (top + 1) blocks
+  -- each is a window of the run
+  pub run : AreUpTo plan.windows blocks
   -- the blocks follow one another
   pub row : IsRow floor top blocks
   -- they are those of the name, where it tells

@@ -3,8 +3,8 @@ use Rattle.std.specs.Prelude.{◌≡◌, ℕ, ◌-◌, ◌<◌, List, Bool, Resu
 use Rattle.apx_list.specs.declared.block.Block.{Block}
 use Rattle.apx_list.specs.declared.list.Read.{Read}
 use Rattle.apx_list.specs.declared.list.Read.TheVariants.{Block as ReadBlock, NotYet}
-use Rattle.apx_list.specs.declared.list.ListFault.{ListFault}
-use Rattle.apx_list.specs.declared.list.ListFault.TheVariants.{Fault, Damaged, Memory}
+use Rattle.apx_list.specs.declared.fault.ListFault.{ListFault}
+use Rattle.apx_list.specs.declared.fault.ListFault.TheVariants.{Fault, Damaged, Memory}
 use Rattle.apx_list.specs.Block.{Spells}
 use Rattle.apx_list.specs.Listed.{Listed, next_number}
 

@@ -6,14 +6,13 @@ ghost use Rattle.apx_wire.specs.Spelling.{IsTuple};
 ghost use Rattle.apx_list.specs.Plan.{IsPlan, IsWindow};
 ghost use Rattle.apx_list.specs.Block.{AreMessages, AllSpell};
 ghost use Rattle.apx_list.specs.Window.{SpellWindow};
-ghost use Rattle.apx_list.specs.Messages.{reset, opening, closing};
 ghost use Rattle.apx_list.specs.Cut.{pieces_of, numbered, blocks_of};
 ghost use Rattle.apx_list.specs.Cutter.{pieces_with, Adds, Settles};
 
 use crate::block::Block;
+use crate::messages::{closing_messages, opening_messages};
 use crate::plan::CutPlan;
 use apx_tuple::{Bag, Tuple};
-use apx_window::{SECONDS_A_STEP, WINDOWS_A_SECOND, id_of};
 use apx_wire::{Message, write, write_payload};
 use bytes::Bytes;
 use std::alloc::{AllocError, Global};
@@ -95,43 +94,12 @@ impl Cutter {
     }
 }
 
-// The Reset of a window that has one.
-fn add_reset(cutter: &mut Cutter, plan: &CutPlan, window: u32) -> Result<(), AllocError>
-    requires plan { IsPlan plan.now }
-    requires window { IsWindow plan.now window }
-    ensures { OnOk result (Adds cutter.old cutter.new (reset plan.now window)) }
+// The messages around the tuples.
+fn add_all(cutter: &mut Cutter, messages: &[Message]) -> Result<(), AllocError>
+    ensures { OnOk result (Adds cutter.old cutter.new messages.now) }
 {
-    let before = window - 1;
-    if before % WINDOWS_A_SECOND != 0 {
-        return Ok(());
-    }
-    let second = plan.base + before / WINDOWS_A_SECOND * SECONDS_A_STEP;
-    cutter.add(&Message::Reset(second))
-}
-
-// The messages that open a window.
-fn open_window(cutter: &mut Cutter, plan: &CutPlan, window: u32) -> Result<(), AllocError>
-    requires plan { IsPlan plan.now }
-    requires window { IsWindow plan.now window }
-    ensures { OnOk result (Adds cutter.old cutter.new (opening plan.now window)) }
-{
-    add_reset(cutter, plan, window)?;
-    cutter.add(&Message::Begin(id_of(plan.base, window)))
-}
-
-// The messages that close a window.
-fn close_window(cutter: &mut Cutter, plan: &CutPlan, window: u32) -> Result<(), AllocError>
-    requires plan { IsPlan plan.now }
-    requires window { IsWindow plan.now window }
-    ensures { OnOk result (Adds cutter.old cutter.new (closing plan.now window)) }
-{
-    let id = id_of(plan.base, window);
-    cutter.add(&Message::End(id))?;
-    if window % plan.every == 0 {
-        cutter.add(&Message::Checkpoint(id))?;
-    }
-    if window == plan.windows {
-        cutter.add(&Message::EndOfStream)?;
+    for message in messages {
+        cutter.add(message)?;
     }
     Ok(())
 }
@@ -160,9 +128,9 @@ fn pieces(
     ensures fit { OnOk result (AreMessages (map Payload tuples.now)) }
 {
     let mut cutter = Cutter::new(alloc, plan.size);
-    open_window(&mut cutter, plan, window)?;
+    add_all(&mut cutter, &opening_messages(alloc, plan, window)?)?;
     add_tuples(&mut cutter, tuples)?;
-    close_window(&mut cutter, plan, window)?;
+    add_all(&mut cutter, &closing_messages(alloc, plan, window)?)?;
     cutter.finish()
 }
 

@@ -3,13 +3,19 @@
 
 pub use block::Block;
 pub use cutting::cut;
-pub use list::{DataList, ListFault, Naming, Read};
+pub use fault::ListFault;
+pub use list::{DataList, Naming, Read};
 pub use plan::CutPlan;
 pub use tuples::{owned_payloads, payloads};
 
 mod block;
+mod checking;
 mod cutting;
+mod fault;
+mod fetching;
+mod kept;
 mod list;
+mod messages;
 mod plan;
 #[cfg(test)]
 mod tests;

@@ -1,16 +1,19 @@
 //! The numbered list of a partition's blocks, from which its readers take them.
-ghost use Rattle.std.specs.Prelude.{◌≡◌, ◌≤◌, ◌+◌, ◌*◌, ◌^◌, [], List, Option, OnOk, OnErr};
+ghost use Rattle.std.specs.Prelude.{◌≡◌, ◌≤◌, ◌+◌, ◌*◌, ◌^◌, [], List, Option, IfErr, OnOk, OnErr};
 ghost use Rattle.apx_list.specs.Plan.{IsPlan};
-ghost use Rattle.apx_list.specs.Listed.{IsNext, with_block, next_number, IsRow, IsPurged, IsDropped, start_of};
+ghost use Rattle.apx_list.specs.Listed.{IsNext, with_block, next_number, IsRow, IsPurged, start_of};
 ghost use Rattle.apx_list.specs.Reads.{GivesBlock};
+ghost use Rattle.apx_list.specs.Kept.{IsOfSpool};
 
 use crate::block::Block;
+use crate::fault::ListFault;
+use crate::fetching::fetch_once;
+use crate::kept::{Fetched, Kept, drop_front, spill_front};
 use crate::plan::CutPlan;
 use apx_device::Spool;
 use std::alloc::{AllocError, Global};
 use std::collections::VecDeque;
 use std::marker::Model;
-use thiserror::Error;
 
 /// The name of a list.
 pub trait Naming {
@@ -28,28 +31,10 @@ pub enum Read {
     NotYet,
 }
 
-/// Why a block wasn't read. `F` is how the list's spool fails.
-#[derive(Debug, Drop, Error)]
-#[error_bound(F: std::fmt::Debug + Drop)]
-pub enum ListFault<F> {
-    #[error("the spool failed")]
-    Fault(F),
-    /// The bytes that the spool gave spell no block of this window, index and last mark.
-    #[error("the spool gave other bytes for block {number}")]
-    Damaged {
-        number: u64,
-        window: u32,
-        index: u32,
-        last: bool,
-        bytes: Vec<u8>,
-    },
-    #[error("out of memory")]
-    Memory,
-}
-
 /// A list of blocks, numbered from 0 since it was made.
 ///
-/// It has the blocks of the windows above `floor` up to `top`, and those so far of the window after.
+/// It has the blocks of the windows above `floor` up to `top`, and those so far of the window after. Blocks that were spilled
+/// stand in its spool, each under its number; its calls give them as before.
 ///
 /// ```
 /// for block in cut(alloc, &plan, window, &rows)? {
@@ -72,8 +57,10 @@ pub struct DataList<S: Spool + Drop, N: Naming + Drop> {
     top: u32,
     /// The number of the oldest block kept.
     first: u64,
-    /// The blocks that are kept, the oldest first.
-    blocks: VecDeque<Block>,
+    /// The blocks that are kept, the oldest first, in memory or spilled.
+    kept: VecDeque<Kept>,
+    /// The last block that was fetched, for the readers that follow.
+    latest: Option<Fetched>,
     /// The window before the first of `starts`.
     from: u32,
     /// The number of block 0 of each window since the list was made.
@@ -83,7 +70,8 @@ pub struct DataList<S: Spool + Drop, N: Naming + Drop> {
 }
 
 impl<S: Spool + Drop, N: Naming + Drop> Model for DataList<S, N> {
-    ghost use Rattle.apx_list.specs.Listed.{Listed, IsKept};
+    ghost use Rattle.apx_list.specs.Listed.{Listed};
+    ghost use Rattle.apx_list.specs.Kept.{all_of, IsStored};
 
     ghost Value = { Listed N };
 
@@ -93,11 +81,11 @@ impl<S: Spool + Drop, N: Naming + Drop> Model for DataList<S, N> {
       floor = list.floor;
       top = list.top;
       first = list.first;
-      blocks = list.blocks.items;
+      blocks = all_of list.kept.items;
     } };
 
-    ghost invariant = { λ list. IsKept (N.named list.name) list.plan list.floor list.top list.first
-        list.blocks.items list.from list.starts.items list.next_start };
+    ghost invariant = { λ list. IsStored S.tells (S.held list.spool) (N.named list.name) list.plan list.floor list.top list.first
+        list.kept.items list.from list.starts.items list.next_start list.latest };
 }
 
 impl<S: Spool + Drop, N: Naming + Drop> DataList<S, N> {
@@ -114,7 +102,8 @@ impl<S: Spool + Drop, N: Naming + Drop> DataList<S, N> {
             floor: from,
             top: from,
             first: 0,
-            blocks: VecDeque::new(alloc),
+            kept: VecDeque::new(alloc),
+            latest: None,
             from,
             starts: Vec::new(alloc),
             next_start: 0,
@@ -143,7 +132,7 @@ impl<S: Spool + Drop, N: Naming + Drop> DataList<S, N> {
         ensures few { result ≤ (self.now.top + 1) * 2 ^ 32 }
         ensures row { IsRow self.now.floor self.now.top self.now.blocks }
     {
-        self.first + self.blocks.len() as u64
+        self.first + self.kept.len() as u64
     }
 
     /// Appends the next block. A refused one is dropped.
@@ -154,29 +143,43 @@ impl<S: Spool + Drop, N: Naming + Drop> DataList<S, N> {
     {
         self.starts.reserve(1)?;
         let last = block.last;
-        self.blocks.push_back(block)?;
+        self.kept.push_back(Kept::Held(block))?;
         if last {
             self.starts.push_reserved(self.next_start);
-            self.next_start = self.first + self.blocks.len() as u64;
+            self.next_start = self.first + self.kept.len() as u64;
             self.top += 1;
         }
         Ok(())
     }
 
-    /// The block with a number, counted from the first that the list got.
+    /// The block with a number, counted from the first that the list got. A spilled one is fetched, and kept for the readers that
+    /// follow until another one is fetched.
     pub fn read(&mut self, place: u64) -> Result<Read, ListFault<S::Fault>>
         requires kept { self.old.first ≤ place }
         requires there { place ≤ next_number self.old }
         ensures read { GivesBlock S.tells (N.named self.old.name) self.old place result }
         ensures list { self.new ≡ self.old }
     {
-        let Some(block) = self.blocks.get((place - self.first) as usize) else {
+        let Some(kept) = self.kept.get((place - self.first) as usize) else {
             return Ok(Read::NotYet);
         };
-        match block.share() {
-            Ok(block) => Ok(Read::Block(block)),
-            Err(_) => Err(ListFault::Memory),
-        }
+        let marks = match kept {
+            Kept::Held(block) => return Ok(Read::Block(block.share()?)),
+            Kept::Spilled(marks, _) => *marks,
+        };
+        let alloc = *self.starts.allocator();
+        let spool = &mut self.spool;
+        let block = fetch_once(alloc, spool, &mut self.latest, &self.plan, place, marks)?;
+        Ok(Read::Block(block))
+    }
+
+    /// Moves all blocks but the newest `keep` to the spool. None is copied, and the list stays, also where the spool fails.
+    pub fn spill(&mut self, keep: usize) -> Result<(), ListFault<S::Fault>>
+        ensures list { self.new ≡ self.old }
+        ensures cause { IfErr result IsOfSpool }
+    {
+        let count = self.kept.len().saturating_sub(keep);
+        spill_front(&mut self.kept, &mut self.spool, self.first, count)
     }
 
     /// The number of block 0 of a window; None up to the floor and above the window after `top`.
@@ -192,28 +195,14 @@ impl<S: Spool + Drop, N: Naming + Drop> DataList<S, N> {
         Some(self.starts[(window - self.from) as usize - 1])
     }
 
-    /// Removes the blocks of the windows up to one. It takes no memory.
+    /// Removes the blocks of the windows up to one. The spool forgets those that it has. It takes no memory.
     pub fn purge(&mut self, to: u32)
         requires floor { self.old.floor ≤ to }
         requires top { to ≤ self.old.top }
         ensures { IsPurged self.old self.new to }
     {
-        self.first += drop_front(&mut self.blocks, to);
+        self.latest = None;
+        self.first += drop_front(&mut self.kept, &mut self.spool, self.first, to);
         self.floor = to;
     }
-}
-
-// Drops the blocks of windows up to one from the front, and tells how many.
-fn drop_front(blocks: &mut VecDeque<Block>, to: u32) -> u64
-    ensures { IsDropped blocks.old.items blocks.new.items to result }
-{
-    let mut count = 0;
-    while let Some(block) = blocks.front() {
-        if block.window > to {
-            break;
-        }
-        let _ = blocks.pop_front();
-        count += 1;
-    }
-    count
 }

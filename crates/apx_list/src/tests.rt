@@ -3,9 +3,10 @@ ghost use Rattle.std.specs.Prelude.{◌≡◌, ◌<◌, ◌≤◌, ℕ, List, No
 ghost use Rattle.apx_list.specs.Plan.{IsPlan};
 ghost use Rattle.apx_list.specs.Block.{AllSpell};
 ghost use Rattle.apx_list.specs.Cut.{numbered};
+ghost use Rattle.apx_list.specs.Listed.{next_number};
 
 use super::*;
-use apx_device::MemorySpool;
+use apx_device::{FailingSpool, FailingSpools, MemorySpool, Spool, Spools, WrongSpools};
 use apx_tuple::{Bag, Key, Tuple};
 use std::alloc::{AllocError, Global};
 use std::process::Abort;
@@ -152,45 +153,90 @@ fn the_blocks_give_their_tuples_back(rt: HostRuntime) -> Result<(), Fail> {
 }
 
 // A list of the first window's blocks.
-fn filled(
+fn filled<S: Spool + Drop>(
     alloc: Global,
     plan: CutPlan,
     blocks: Vec<Block>,
-) -> Result<DataList<MemorySpool, Untold>, AllocError>
+    spool: S,
+) -> Result<DataList<S, Untold>, AllocError>
     requires plan { IsPlan plan }
     requires windows { 1 ≤ plan.windows }
     requires some { 0 < length blocks.items }
     requires window { (pieces : List (List ℕ)) × (blocks.items ≡ numbered 1 (length pieces) 0 pieces) }
     requires spell { AllSpell plan blocks.items }
-    ensures { IfOk result (λ list. list ≡ record { name = record {}; plan = plan; floor = 0; top = 1; first = 0; blocks = blocks.items }) }
+    ensures { IfOk result (λ list. list ≡
+        record { name = record {}; plan = plan; floor = 0; top = 1; first = 0; blocks = blocks.items }) }
 {
-    let mut list = DataList::new(alloc, Untold, plan, 0, MemorySpool::new(alloc));
+    let mut list = DataList::new(alloc, Untold, plan, 0, spool);
     for block in blocks {
         list.append(block)?;
     }
     Ok(list)
 }
 
-fn expect_block(rt: &impl Abort, read: Read, index: u32, len: usize) {
-    match read {
-        Read::Block(block) => assert!(rt; block.index == index && block.bytes.len() == len),
-        Read::NotYet => assert!(rt; false, "block {index} isn't there"),
+// A list of the blocks of 14, 1,039, 1,039 and 9 bytes.
+fn four_blocks<S: Spool + Drop>(
+    rt: &impl Abort,
+    alloc: Global,
+    spool: S,
+) -> Result<DataList<S, Untold>, Fail>
+    ensures first { IfOk result (λ list. list.first ≡ 0) }
+    ensures next { IfOk result (λ list. next_number list ≡ 4) }
+{
+    let blocks = cut(alloc, &PLAN, 1, &long_keys(alloc)?)?;
+    assert_eq!(rt; blocks.len(), 4);
+    Ok(filled(alloc, PLAN, blocks, spool)?)
+}
+
+// Reads a block of the first window, which has this many bytes.
+fn expect_block<S: Spool + Drop>(
+    rt: &impl Abort,
+    list: &mut DataList<S, Untold>,
+    place: u64,
+    len: usize,
+) -> Result<(), Fail>
+    requires first { list.old.first ≡ 0 }
+    requires next { next_number list.old ≡ 4 }
+    requires there { place < 4 }
+    ensures { list.new ≡ list.old }
+{
+    match list.read(place)? {
+        Read::Block(block) => {
+            assert!(rt; block.window == 1 && u64::from(block.index) == place);
+            assert!(rt; block.last == (place == 3) && block.bytes.len() == len);
+        }
+        Read::NotYet => assert!(rt; false, "block {place} isn't there"),
     }
+    Ok(())
+}
+
+// Reads all blocks, and what comes behind them.
+fn expect_all<S: Spool + Drop>(rt: &impl Abort, list: &mut DataList<S, Untold>) -> Result<(), Fail>
+    requires first { list.old.first ≡ 0 }
+    requires next { next_number list.old ≡ 4 }
+    ensures { list.new ≡ list.old }
+{
+    expect_block(rt, list, 0, 14)?;
+    expect_block(rt, list, 1, 1039)?;
+    expect_block(rt, list, 2, 1039)?;
+    expect_block(rt, list, 3, 9)?;
+    assert!(rt; matches!(list.read(4)?, Read::NotYet));
+    Ok(())
 }
 
 #[test]
 fn a_list_gives_its_blocks_until_they_are_purged(rt: HostRuntime) -> Result<(), Fail> {
     let alloc = rt.alloc();
-    let blocks = cut(alloc, &PLAN, 1, &long_keys(alloc)?)?;
-    assert_eq!(rt; blocks.len(), 4);
-    let mut list = filled(alloc, PLAN, blocks)?;
+    let mut list = four_blocks(&rt, alloc, MemorySpool::new(alloc))?;
     assert_eq!(rt; list.start(1), Some(0));
     assert_eq!(rt; list.floor(), 0);
     assert_eq!(rt; list.top(), 1);
     assert_eq!(rt; list.next(), 4);
-    expect_block(&rt, list.read(0)?, 0, 14);
-    expect_block(&rt, list.read(3)?, 3, 9);
-    assert!(rt; matches!(list.read(4)?, Read::NotYet));
+    expect_all(&rt, &mut list)?;
+    list.spill(1)?;
+    expect_all(&rt, &mut list)?;
+    list.spill(0)?;
+    expect_all(&rt, &mut list)?;
     list.purge(1);
     assert_eq!(rt; list.floor(), 1);
     assert_eq!(rt; list.start(1), None);
@@ -198,6 +244,71 @@ fn a_list_gives_its_blocks_until_they_are_purged(rt: HostRuntime) -> Result<(), 
     assert_eq!(rt; list.start(3), None);
     assert!(rt; matches!(list.read(4)?, Read::NotYet));
     Ok(())
+}
+
+// A spool whose puts and fetches with these numbers fail.
+fn failing(alloc: Global, puts: &[u64], fetches: &[u64]) -> Result<FailingSpool, Fail> {
+    let puts = puts.to_vec(alloc)?;
+    let fetches = fetches.to_vec(alloc)?;
+    Ok(FailingSpools::new(alloc, Vec::new(alloc), puts, fetches).fresh()?)
+}
+
+#[test]
+fn a_fault_of_the_spool_leaves_the_list(rt: HostRuntime) -> Result<(), Fail> {
+    let alloc = rt.alloc();
+    let mut list = four_blocks(&rt, alloc, failing(alloc, &[2], &[1])?)?;
+    assert!(rt; matches!(list.spill(1), Err(ListFault::Fault(_))));
+    // block 0 was put before the spool failed, and the first fetch fails
+    assert!(rt; matches!(list.read(0), Err(ListFault::Fault(_))));
+    expect_all(&rt, &mut list)?;
+    list.spill(1)?;
+    expect_all(&rt, &mut list)
+}
+
+#[test]
+fn one_fetch_serves_the_readers_that_follow(rt: HostRuntime) -> Result<(), Fail> {
+    let alloc = rt.alloc();
+    let mut list = four_blocks(&rt, alloc, failing(alloc, &[], &[2])?)?;
+    list.spill(0)?;
+    expect_block(&rt, &mut list, 1, 1039)?;
+    expect_block(&rt, &mut list, 1, 1039)?;
+    expect_block(&rt, &mut list, 1, 1039)?;
+    // the second fetch
+    assert!(rt; matches!(list.read(0), Err(ListFault::Fault(_))));
+    expect_block(&rt, &mut list, 1, 1039)?;
+    expect_all(&rt, &mut list)
+}
+
+// The fault of block 1, for which the spool gave one byte.
+fn expect_damaged<F: Drop>(rt: &impl Abort, fault: ListFault<F>) {
+    match fault {
+        ListFault::Damaged {
+            number,
+            window,
+            index,
+            last,
+            bytes,
+        } => {
+            assert!(rt; number == 1 && window == 1 && index == 1 && !last);
+            assert!(rt; bytes.as_slice() == [7].as_slice());
+        }
+        ListFault::Fault(_fault) => assert!(rt; false, "the spool failed"),
+        ListFault::Memory => assert!(rt; false, "out of memory"),
+    }
+}
+
+#[test]
+fn bytes_that_spell_no_such_block_are_told(rt: HostRuntime) -> Result<(), Fail> {
+    let alloc = rt.alloc();
+    let wrong = [7].as_slice().to_vec(alloc)?;
+    let mut list = four_blocks(&rt, alloc, WrongSpools::new(alloc, 1, wrong).fresh()?)?;
+    list.spill(1)?;
+    expect_block(&rt, &mut list, 0, 14)?;
+    match list.read(1) {
+        Ok(_read) => assert!(rt; false, "block 1 isn't damaged"),
+        Err(fault) => expect_damaged(&rt, fault),
+    }
+    expect_block(&rt, &mut list, 2, 1039)
 }
 
 #[test]

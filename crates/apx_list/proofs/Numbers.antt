@@ -1,5 +1,5 @@
 -- What a list keeps of its numbers, when a block is appended or windows are purged.
-use Rattle.std.proofs.Common.{◌≡◌, ℕ, ◌+◌, ◌-◌, ◌^◌, ◌<◌, ◌≤◌, List, [], ◌∷◌, ◌++◌, length, refl, zero, suc, sym, ap, ◌∙◌, arith, true, false, ltb, Option, Some, slice_get, get_or, append_assoc, length-append, drop, subst, inl, inr}
+use Rattle.std.proofs.Common.{◌≡◌, ℕ, ◌+◌, ◌-◌, ◌^◌, ◌<◌, ◌≤◌, List, [], ◌∷◌, ◌++◌, length, refl, zero, suc, sym, ap, ◌∙◌, arith, true, false, ltb, Option, Some, slice_get, get_or, length-append, subst, inl, inr}
 use Rattle.std.proofs.Math.ListN.{get_or-append}
 use Rattle.std.proofs.Math.Seq.{get_or-append_seam}
 use Rattle.std.specs.Prelude.{IfSome, slice_index}
@@ -42,6 +42,14 @@ pub IsWithin-higher : (low high higher : ℕ) (xs : List Block) → IsWithin low
 IsWithin-higher low high higher [] h le = tt
 IsWithin-higher low high higher (x ∷ xs) h le = (h.0, omega (arith, h.1), IsWithin-higher x.window high higher xs h.2 le)
 
+AreUpTo-append : (to : ℕ) (xs : List Block) (y : Block) → AreUpTo to xs → y.window ≤ to → AreUpTo to (xs ++ y ∷ [])
+AreUpTo-append to [] y up le = (le, tt)
+AreUpTo-append to (x ∷ xs) y up le = (up.0, AreUpTo-append to xs y up.1 le)
+
+AreUpTo-rest : (to : ℕ) (xs ys : List Block) → AreUpTo to (xs ++ ys) → AreUpTo to ys
+AreUpTo-rest to [] ys up = up
+AreUpTo-rest to (x ∷ xs) ys up = AreUpTo-rest to xs ys up.1
+
 -- one block of the window after top doesn't count before that window
 not_before : (top window : ℕ) (blocks : List Block) (block : Block) → block.window ≡ top + 1 → window ≤ top + 1 → before window (blocks ++ block ∷ []) ≡ before window blocks
 not_before top window blocks block is le =
@@ -52,13 +60,14 @@ pub length_one : (blocks : List Block) (block : Block) → length (blocks ++ blo
 length_one blocks block = simp length-append
 
 -- a window that goes on
-pub kept_in_window : (told : Option (List Block)) (plan : CutPlan) (floor top first : ℕ) (blocks : List Block) (from : ℕ) (starts : List ℕ) (next_start : ℕ) (block : Block) → IsKept told plan floor top first blocks from starts next_start → block.window ≡ top + 1 → before (top + 1) blocks + block.index ≡ length blocks → block.index < 2 ^ 32 → Spells plan block → block.last ≡ false → IfSome told (λ all. slice_get all (first + length blocks) ≡ Some block) → IsKept told plan floor top first (blocks ++ block ∷ []) from starts next_start
-kept_in_window told plan floor top first blocks from starts next_start block kept window index fits spells goes_on named = record {
+pub kept_in_window : (told : Option (List Block)) (plan : CutPlan) (floor top first : ℕ) (blocks : List Block) (from : ℕ) (starts : List ℕ) (next_start : ℕ) (block : Block) → IsKept told plan floor top first blocks from starts next_start → block.window ≡ top + 1 → block.window ≤ plan.windows → before (top + 1) blocks + block.index ≡ length blocks → block.index < 2 ^ 32 → Spells plan block → block.last ≡ false → IfSome told (λ all. slice_get all (first + length blocks) ≡ Some block) → IsKept told plan floor top first (blocks ++ block ∷ []) from starts next_start
+kept_in_window told plan floor top first blocks from starts next_start block kept window there index fits spells goes_on named = record {
   plan_is = kept.plan_is;
   floor_below = kept.floor_below;
   top_below = kept.top_below;
   spelled = AllSpell-append plan blocks block kept.spelled spells;
   within = IsWithin-append (floor + 1) (top + 1) blocks block kept.within (omega (arith, kept.floor_below)) window;
+  run = AreUpTo-append plan.windows blocks block kept.run there;
   row = row_goes_on floor top blocks block kept.row window index goes_on (not_before top (top + 1) blocks block window (omega arith));
   named = named_more told first blocks block kept.named named;
   from_below = kept.from_below;
@@ -93,6 +102,7 @@ kept_at_end told plan floor top first blocks from starts next_start block kept w
       top_below = omega (arith, there, window);
       spelled = AllSpell-append plan blocks block kept.spelled spells;
       within = IsWithin-higher (floor + 1) (top + 1) (top + 1 + 1) (blocks ++ block ∷ []) inside (omega arith);
+      run = AreUpTo-append plan.windows blocks block kept.run there;
       row = row_ends floor top blocks block kept.row window index ends (before-all (floor + 1) (top + 1) (top + 1 + 1) (blocks ++ block ∷ []) inside (omega arith));
       named = named_more told first blocks block kept.named named;
       from_below = kept.from_below;
@@ -136,6 +146,7 @@ kept_purged told plan floor top first blocks from starts next_start to gone rest
       top_below = kept.top_below;
       spelled = AllSpell-rest plan gone rest (rw (← split) kept.spelled);
       within = within_rest (floor + 1) (top + 1) to blocks rest gone kept.within split front;
+      run = AreUpTo-rest plan.windows gone rest (rw (← split) kept.run);
       row = row_purged floor top to blocks gone rest kept.row low high split are_gone (less (top + 1) (omega arith)) front;
       named = named_rest told first blocks gone rest kept.named split;
       from_below = omega (arith, kept.from_below);
@@ -145,20 +156,6 @@ kept_purged told plan floor top first blocks from starts next_start to gone rest
       few_finished = kept.few_finished;
       few_next = omega (arith, kept.few_next, ap length split, length-append gone rest);
     }
-
--- one more block that is gone from the front
-pub more_gone : (to count : ℕ) (old blocks rest gone : List Block) (block : Block) → old ≡ gone ++ blocks → AreUpTo to gone → count ≡ length gone → 0 < length blocks → block ≡ get_or blocks 0 block → rest ≡ drop 1 blocks → block.window ≤ to → (more : List Block) × (old ≡ more ++ rest) × AreUpTo to more × (count + 1 ≡ length more)
-more_gone to count old blocks rest gone block split up counted some is rest_is le =
-    let taken : blocks ≡ block ∷ rest = first_taken blocks rest block some is rest_is in
-    (gone ++ block ∷ [], rw (append_assoc gone (block ∷ []) rest, ← taken) split, AreUpTo-append to gone block up le, omega (arith, counted, length_one gone block))
-  where
-    first_taken : (blocks rest : List Block) (block : Block) → 0 < length blocks → block ≡ get_or blocks 0 block → rest ≡ drop 1 blocks → blocks ≡ block ∷ rest
-    first_taken [] rest block some is rest_is = absurd (omega (arith, some))
-    first_taken (x ∷ xs) rest block some is rest_is = rw rest_is (ap (λ (y : Block). y ∷ xs) (sym is))
-
-    AreUpTo-append : (to : ℕ) (gone : List Block) (block : Block) → AreUpTo to gone → block.window ≤ to → AreUpTo to (gone ++ block ∷ [])
-    AreUpTo-append to [] block up le = (le, tt)
-    AreUpTo-append to (x ∷ gone) block up le = (up.0, AreUpTo-append to gone block up.1 le)
 
 -- an element at its index
 pub slice_get-is : {X : Type 0} (xs : List X) (k : ℕ) (x : X) → k < length xs → x ≡ get_or xs k x → slice_get xs k ≡ Some x

@@ -1,7 +1,7 @@
 use Rattle.apx_list.specs.declared.tests.TheConstants.{PLAN}
 use Rattle.apx_list.specs.Cut.{blocks_of, pieces_of}
-use Rattle.apx_list.proofs.tests.a_list_gives_its_blocks_until_they_are_purged.Goals as goal
+use Rattle.apx_list.proofs.tests.four_blocks.Goals as goal
 
 pub filled-requires-clause-window : goal.filled-requires-clause-window
 unfolding blocks_of
-filled-requires-clause-window g c = (pieces_of PLAN 1 c.in_ok-long_keys.field-0, c.in_ok-blocks.ensures.blocks)
+filled-requires-clause-window g c κs bounds = (pieces_of PLAN 1 c.in_ok-long_keys.field-0, c.in_ok-blocks.ensures.blocks)
