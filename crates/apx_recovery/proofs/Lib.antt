@@ -1,2 +1,3 @@
-pub mod Steps
 pub mod Marks
+pub mod Numbers
+pub mod Steps

@@ -8,7 +8,7 @@ mod checkpoint;
 mod operators;
 
 pub use checkpoint::{advance_to, committed};
-pub use operators::{readers, tree};
+pub use operators::{downstream, readers, tree};
 
 #[cfg(test)]
 mod tests;

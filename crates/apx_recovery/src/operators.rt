@@ -1,11 +1,12 @@
 //! Who reads an operator, and what is downstream of it.
-ghost use Rattle.std.specs.Prelude.{◌≡◌, ℕ, ◌<◌, ◌≤◌, ◌^◌, ◌||◌, ◌&&◌, ◌==◌, Bool, length, get_or, cond, false};
-ghost use Rattle.std.specs.List.{list_any};
+ghost use Rattle.std.specs.Prelude.{◌≡◌, ℕ, ◌<◌, ◌≤◌, ◌^◌, ◌||◌, ◌&&◌, ◌==◌, Bool, length, get_or, cond, false, IfOk};
+ghost use Rattle.std.specs.List.{list_any, range_with_len, filter};
 ghost use Rattle.apx_pass.specs.Order as order;
 ghost use Rattle.apx_pass.specs.Order.{sources, sources_of, is_below};
 ghost use Rattle.apx_recovery.specs.Sets.{set_of};
 
 use apx_dag::{Dag, Node, Role};
+use std::alloc::{AllocError, Global};
 
 /// Whether an operator is marked.
 fn is_marked(marks: &[bool], op: u16) -> bool
@@ -116,4 +117,29 @@ pub fn tree(dag: &Dag, op: u16) -> u16
     let mut marks = [false; 16];
     mark(dag, op, &mut marks);
     marked(&marks, len)
+}
+
+/// The marked operators among the first so many, in ascending order.
+fn numbers(alloc: Global, marks: &[bool], len: u16) -> Result<Vec<u16>, AllocError>
+    ensures { IfOk result (λ ops. ops.items ≡ filter (λ o. get_or marks.now o false) (range_with_len 0 len)) }
+{
+    let mut ops = Vec::new(alloc);
+    for op in 0..len {
+        if is_marked(marks, op) {
+            ops.push(op)?;
+        }
+    }
+    Ok(ops)
+}
+
+/// The operators that are downstream of an operator, as a list in ascending order. It isn't among them.
+pub fn downstream(alloc: Global, dag: &Dag, op: u16) -> Result<Vec<u16>, AllocError>
+    requires { op < length dag.now }
+    ensures { IfOk result (λ ops. ops.items ≡ filter (λ o. is_below dag.now op o) (range_with_len 0 (length dag.now))) }
+{
+    let len = dag.len();
+    let mut marks = [false; 16];
+    mark(dag, op, &mut marks);
+    let ops = numbers(alloc, &marks, len)?;
+    Ok(ops)
 }
