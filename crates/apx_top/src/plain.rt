@@ -19,6 +19,13 @@ use apx_load::{Refusal, Stop};
 use std::alloc::Global;
 
 /// The devices that a run takes over.
+///
+/// ```
+/// let devices = Devices {
+///     keeper: MemoryKeeper::new(alloc),
+/// };
+/// let ended = apex_plain(alloc, &words, &mut files, devices, &mut out, &mut err);
+/// ```
 pub struct Devices<K> {
     /// The sink's store.
     pub keeper: K,
