@@ -8,6 +8,10 @@ use Rattle.apx_cmd.specs.declared.refusal.CommandRefusal.{CommandRefusal}
 use Rattle.apx_cmd.specs.declared.refusal.CommandRefusal.TheVariants as words
 use Rattle.apx_script.specs.declared.refusal.ScriptRefusal.{ScriptRefusal}
 use Rattle.apx_script.specs.declared.refusal.ScriptRefusal.TheVariants as script
+use Rattle.apx_tuple.specs.declared.refusal.Short.{Short}
+use Rattle.apx_tuple.specs.declared.refusal.Short.TheVariants as short
+use Rattle.apx_device.specs.declared.keeper.KeepRefusal.{KeepRefusal}
+use Rattle.apx_device.specs.declared.keeper.KeepRefusal.TheVariants as keep
 use Rattle.apx_device.specs.declared.folder.ReadRefusal.{ReadRefusal}
 use Rattle.apx_device.specs.declared.folder.ReadRefusal.TheVariants as read
 use Rattle.apx_device.specs.declared.folder.ReadRefusal.TheVariants.{Absent, TooLong, Failed}
@@ -55,7 +59,7 @@ abbrev pub reading_causes : (Refusal → Type 0) → List Answer → Type 0 → 
 reading_causes refuses answers rose =
     record no_causes { refuses = refuses; unread = λ name. rose × StopsAt answers name Failed }
 
--- ---- the stop for a refusal of words, of an application's text or graph, or of a script
+-- ---- the stop for a refusal of words, of an application's text or graph, of a script, of the store, or for a size
 
 -- the stop for a refusal of words
 abbrev pub stop_of_words : CommandRefusal → Stop
@@ -77,3 +81,13 @@ stop_of_graph graph.Memory = Memory
 abbrev pub stop_of_script : ScriptRefusal → Stop
 stop_of_script (script.Line line why) = Refused (RefusedCommand line why)
 stop_of_script script.Memory = Memory
+
+-- the stop for a refusal of the sink's store
+abbrev pub stop_of_store : KeepRefusal → Stop
+stop_of_store keep.Failed = StoreFailed
+stop_of_store keep.Memory = Memory
+
+-- the stop for a bag or a state that wasn't made
+abbrev pub stop_of_short : Short → Stop
+stop_of_short short.Memory = Memory
+stop_of_short short.Large = Large

@@ -2,8 +2,10 @@
 use crate::refusal::Refusal;
 use apx_cmd::CommandRefusal;
 use apx_dag::AppRefusal;
+use apx_device::{Failed, KeepRefusal};
 use apx_json::{JsonRefusal, Name};
 use apx_script::ScriptRefusal;
+use apx_tuple::Short;
 use std::alloc::{AllocError, AllocFailed};
 
 /// Why a run stops before its end.
@@ -104,6 +106,45 @@ impl From<ScriptRefusal> for Stop {
                 why,
             }),
             ScriptRefusal::Memory => Stop::Memory,
+        }
+    }
+}
+
+impl From<KeepRefusal> for Stop {
+    ghost use Rattle.std.specs.Prelude.{◌≡◌};
+    ghost use Rattle.apx_load.specs.Stops.{stop_of_store};
+
+    ghost from_gives = { λ refusal stop. stop ≡ stop_of_store refusal };
+
+    fn from(refusal: KeepRefusal) -> Stop {
+        match refusal {
+            KeepRefusal::Failed => Stop::StoreFailed,
+            KeepRefusal::Memory => Stop::Memory,
+        }
+    }
+}
+
+impl From<Failed> for Stop {
+    ghost use Rattle.std.specs.Prelude.{◌≡◌};
+    ghost use Rattle.apx_load.specs.declared.stop.Stop.TheVariants.{OutputFailed};
+
+    ghost from_gives = { λ _ stop. stop ≡ OutputFailed };
+
+    fn from(_failed: Failed) -> Stop {
+        Stop::OutputFailed
+    }
+}
+
+impl From<Short> for Stop {
+    ghost use Rattle.std.specs.Prelude.{◌≡◌};
+    ghost use Rattle.apx_load.specs.Stops.{stop_of_short};
+
+    ghost from_gives = { λ short stop. stop ≡ stop_of_short short };
+
+    fn from(short: Short) -> Stop {
+        match short {
+            Short::Memory => Stop::Memory,
+            Short::Large => Stop::Large,
         }
     }
 }
