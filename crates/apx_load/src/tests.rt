@@ -101,6 +101,33 @@ fn an_application_is_refused(rt: HostRuntime) -> Result<(), Fail> {
     Ok(())
 }
 
+/// So many lines of 1,024 bytes, with their LF.
+fn wide_lines(alloc: Global, count: u32) -> Result<String, AllocError> {
+    let line = padded(alloc, "", 1023)?;
+    let mut text = String::new(alloc);
+    for _ in 0..count {
+        text.push_str(line.as_str())?;
+        text.push_str("\n")?;
+    }
+    Ok(text)
+}
+
+#[test]
+fn an_input_has_at_most_16_mebibytes(rt: HostRuntime) -> Result<(), Fail> {
+    let alloc = rt.alloc();
+    let mut text = wide_lines(alloc, 16_384)?;
+    assert_eq!(rt; text.len(), 16_777_216);
+    let longest = inputs_stop(alloc, &[("a.txt", text.as_str()), ("b.txt", "")])?;
+    assert!(rt; longest.is_none());
+    text.push_str("x")?;
+    let longer = inputs_stop(alloc, &[("a.txt", text.as_str()), ("b.txt", "")])?;
+    let Some(Stop::Refused(Refusal::FileTooLong { name })) = longer else {
+        return Err("no refusal")?;
+    };
+    assert_eq!(rt; name.text(), "a.txt");
+    Ok(())
+}
+
 #[test]
 fn the_first_input_of_the_file_is_refused(rt: HostRuntime) -> Result<(), Fail> {
     let alloc = rt.alloc();
