@@ -14,3 +14,5 @@ mod progress;
 mod size;
 mod states;
 mod steps;
+#[cfg(test)]
+mod tests;
