@@ -15,7 +15,7 @@ use crate::refusal::{LineCause, Refusal};
 use crate::stop::Stop;
 use apx_dag::{Dag, Node, Role};
 use apx_device::{Folder, ReadRefusal};
-use apx_input::{LineRefusal, Windows, windows};
+use apx_input::{LineRefusal, Windows};
 use apx_json::{Name, read_app};
 use apx_tuple::InputKind;
 use std::alloc::Global;
@@ -153,7 +153,7 @@ fn lines<F: Folder>(
         (Rose (F.faults files.old) (F.faults files.new))))) }
 {
     let text = read_file(alloc, files, file.text(), MAX_INPUT_LEN)?;
-    match windows(alloc, kind, per_window, &text) {
+    match Windows::of(kind, per_window, text) {
         Ok(windows) => Ok(windows),
         Err(refusal) => Err(refused_line(file, refusal)),
     }
