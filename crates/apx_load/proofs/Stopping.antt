@@ -2,6 +2,10 @@
 use Rattle.std.proofs.Common.{◌≡◌, ℕ, List, [], ◌∷◌, inl, refl, sym, ap, arith, ◌≤◌, ◌++◌}
 use Rattle.std.specs.Prelude.{Err}
 use Rattle.apx_cause.specs.Cause.{Rose}
+use Rattle.apx_tuple.specs.declared.refusal.Short.{Short}
+use Rattle.apx_tuple.specs.declared.refusal.Short.TheVariants as short
+use Rattle.apx_device.specs.declared.keeper.KeepRefusal.{KeepRefusal}
+use Rattle.apx_device.specs.declared.keeper.KeepRefusal.TheVariants as keep
 use Rattle.apx_device.specs.declared.folder.ReadRefusal.{ReadRefusal}
 use Rattle.apx_device.specs.declared.folder.ReadRefusal.TheVariants as read
 use Rattle.apx_device.specs.declared.folder.ReadRefusal.TheVariants.{Absent, TooLong, Failed}
@@ -10,7 +14,7 @@ use Rattle.apx_device.proofs.Hearing.{Gave-first, Gave-second}
 use Rattle.apx_load.specs.declared.refusal.Refusal.{Refusal}
 use Rattle.apx_load.specs.declared.stop.Stop.{Stop}
 use Rattle.apx_load.specs.declared.stop.Stop.TheVariants.{Refused, CannotRead, StoreFailed, OutputFailed, Memory, Large}
-use Rattle.apx_load.specs.Stops.{Causes, IsCaused, no_causes, IsUnread, reading_causes}
+use Rattle.apx_load.specs.Stops.{Causes, IsCaused, no_causes, IsUnread, reading_causes, stop_of_store, stop_of_short}
 use Rattle.apx_load.specs.Refusals.{by_answers, IsFileRefusal}
 
 -- each cause of the one is a cause of the other
@@ -69,3 +73,15 @@ read_stop name limit read.Memory rose stop is risen =
 pub read_first : (P Q : Refusal → Type 0) (answers : List Answer) (rose : Type 0) (stop : Stop) → ((refusal : Refusal) → P refusal → Q refusal) → IsCaused (reading_causes P answers rose) stop → IsCaused (reading_causes Q answers rose) stop
 read_first P Q answers rose stop refuses is =
     caused_weaker _ _ stop (record { refuses = refuses; unread = λ name failed. failed; store = λ none. none; output = λ none. none; large = λ none. none }) is
+
+-- ---- the stop for a refusal of a device or for a size
+
+-- a refusal of the store has its cause where the store failed
+pub caused_by_store : (causes : Causes) (refusal : KeepRefusal) → (refusal ≡ keep.Failed → causes.store) → IsCaused causes (stop_of_store refusal)
+caused_by_store causes keep.Failed rose = rose refl
+caused_by_store causes keep.Memory rose = tt
+
+-- a bag or a state that wasn't made has its cause where it is too large
+pub caused_by_size : (causes : Causes) (size : Short) → (size ≡ short.Large → causes.large) → IsCaused causes (stop_of_short size)
+caused_by_size causes short.Memory large = tt
+caused_by_size causes short.Large large = large refl

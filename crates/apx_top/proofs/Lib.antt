@@ -2,4 +2,5 @@ pub mod Acting
 pub mod Printing
 pub mod Runnable
 pub mod Running
+pub mod Sending
 pub mod Storing

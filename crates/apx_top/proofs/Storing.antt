@@ -4,8 +4,14 @@ use Rattle.apx_tuple.specs.declared.tuple.Tuple.{Tuple}
 use Rattle.apx_pass.specs.Pass.{Dataflow, windows, mean, mean_up_to, rows_at, sink_of}
 use Rattle.apx_load.specs.declared.stop.Stop.{Stop}
 use Rattle.apx_load.specs.declared.stop.Stop.TheVariants.{Refused, CannotRead, StoreFailed, OutputFailed, Memory, Large}
-use Rattle.apx_top.specs.Loop.{HoldsFirst}
 use Rattle.apx_top.specs.Store.{HoldsPrefix, LeftByCommit}
+
+-- the store holds the rows of exactly so many first windows
+pub record HoldsFirst (flow : Dataflow) (last : ℕ) (stored : List (List Tuple)) : Type 0 where
+  -- no more than there are
+  pub within : last ≤ windows flow
+  -- their rows
+  pub is : stored ≡ mean_up_to flow last
 
 module _ (flow : Dataflow) where
   pub length-mean_up_to : (n : ℕ) → length (mean_up_to flow n) ≡ n

@@ -1,5 +1,4 @@
 pub mod Lines
-pub mod Loop
 pub mod Plain
 pub mod Changes
 pub mod Run

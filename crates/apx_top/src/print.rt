@@ -8,7 +8,7 @@ ghost use Rattle.apx_top.specs.Run.{printing_causes};
 ghost use Rattle.apx_top.specs.Sent.{HasWritten};
 
 use crate::write::write_all;
-use apx_device::{KeepRefusal, Keeper, Out};
+use apx_device::{Keeper, Out};
 use apx_load::Stop;
 use apx_report::window_text;
 use apx_tuple::Tuple;
@@ -30,13 +30,8 @@ fn write_window<O: Out>(
     ensures stop { IfErr result (IsCaused (record no_causes { output = Rose (O.faults out.old) (O.faults out.new) })) }
 {
     let mut text = Vec::new(alloc);
-    if window_text(base, window, rows, &mut text).is_err() {
-        return Err(Stop::Memory);
-    }
-    match write_all(out, &text) {
-        Ok(()) => Ok(()),
-        Err(_) => Err(Stop::OutputFailed),
-    }
+    window_text(base, window, rows, &mut text)?;
+    Ok(write_all(out, &text)?)
 }
 
 /// Prints a window that the keeper holds.
@@ -62,11 +57,8 @@ fn print_window<K: Keeper, O: Out>(
     ensures stop { IfErr result (IsCaused
         (printing_causes (Rose (K.faults keeper.old) (K.faults keeper.new)) (Rose (O.faults out.old) (O.faults out.new)))) }
 {
-    match keeper.rows(alloc, window) {
-        Ok(rows) => write_window(alloc, base, window, &rows, out),
-        Err(KeepRefusal::Failed) => Err(Stop::StoreFailed),
-        Err(KeepRefusal::Memory) => Err(Stop::Memory),
-    }
+    let rows = keeper.rows(alloc, window)?;
+    write_window(alloc, base, window, &rows, out)
 }
 
 /// Prints the keeper's windows from the first to the number `windows`, or a front of that text.

@@ -4,7 +4,7 @@ ghost use Rattle.apx_cause.specs.Cause.{Rose};
 ghost use Rattle.apx_top.specs.Lines.{refusal_status, status_of, cause_text, blank_before, refusal_line, line_of};
 ghost use Rattle.apx_top.specs.Sent.{HasWritten};
 
-use crate::write::{write_all, write_five, write_three};
+use crate::write::Text;
 use apx_device::{Failed, Out};
 use apx_json::Name;
 use apx_load::{LineCause, Refusal, Stop};
@@ -45,11 +45,11 @@ pub(crate) fn say<E: Out>(err: &mut E, stop: &Stop) -> Result<(), Failed>
 {
     match stop {
         Stop::Refused(refusal) => say_refusal(err, refusal),
-        Stop::CannotRead { name } => say_name(err, b"apex: cannot read ", name),
-        Stop::StoreFailed => write_all(err, b"apex: sink store failed\n"),
-        Stop::OutputFailed => write_all(err, b""),
-        Stop::Memory => write_all(err, b"apex: out of memory\n"),
-        Stop::Large => write_all(err, b"apex: too large\n"),
+        Stop::CannotRead { name } => say_name(err, "apex: cannot read ", name),
+        Stop::StoreFailed => "apex: sink store failed\n".write_to(err),
+        Stop::OutputFailed => "".write_to(err),
+        Stop::Memory => "apex: out of memory\n".write_to(err),
+        Stop::Large => "apex: too large\n".write_to(err),
     }
 }
 
@@ -59,12 +59,12 @@ fn say_refusal<E: Out>(err: &mut E, refusal: &Refusal) -> Result<(), Failed>
     ensures cause { IsErr result → Rose (E.faults err.old) (E.faults err.new) }
 {
     match refusal {
-        Refusal::NotACommand => write_all(err, b"apex: not a command\n"),
-        Refusal::NotBuilt => write_all(err, b"apex: not a command\n"),
-        Refusal::NoFile { name } => say_name(err, b"apex: no file ", name),
-        Refusal::FileTooLong { name } => say_name(err, b"apex: file too long ", name),
-        Refusal::NoJson => write_all(err, b"apex: application refused: Syntax\n"),
-        Refusal::WrongShape { place } => say_name(err, b"apex: application refused: Shape ", place),
+        Refusal::NotACommand => "apex: not a command\n".write_to(err),
+        Refusal::NotBuilt => "apex: not a command\n".write_to(err),
+        Refusal::NoFile { name } => say_name(err, "apex: no file ", name),
+        Refusal::FileTooLong { name } => say_name(err, "apex: file too long ", name),
+        Refusal::NoJson => "apex: application refused: Syntax\n".write_to(err),
+        Refusal::WrongShape { place } => say_name(err, "apex: application refused: Shape ", place),
         Refusal::BrokenRule { code, place } => say_rule(err, *code, place),
         Refusal::RefusedLine { file, line, cause } => say_line(err, file, *line, *cause),
         Refusal::RefusedCommand { line, why } => say_command(err, *line, *why),
@@ -72,12 +72,12 @@ fn say_refusal<E: Out>(err: &mut E, refusal: &Refusal) -> Result<(), Failed>
 }
 
 /// Writes what was refused, a name, and LF.
-fn say_name<E: Out>(err: &mut E, what: &[u8], name: &Name) -> Result<(), Failed>
+fn say_name<E: Out>(err: &mut E, what: &str, name: &Name) -> Result<(), Failed>
     ensures written { HasWritten E.tells (what.now ++ (name.now ++ codes "\n")) result (E.written err.old) (E.written err.new) }
     ensures later { E.faults err.old ≤ E.faults err.new }
     ensures cause { IsErr result → Rose (E.faults err.old) (E.faults err.new) }
 {
-    write_three(err, what, name.text().as_bytes(), b"\n")
+    (what, (name.text(), "\n")).write_to(err)
 }
 
 /// Writes which rule of applications was broken, and where.
@@ -89,17 +89,10 @@ fn say_rule<E: Out>(err: &mut E, code: u8, place: &Name) -> Result<(), Failed>
     ensures cause { IsErr result → Rose (E.faults err.old) (E.faults err.new) }
 {
     let mut buffer = Buffer::new();
-    let code = buffer.format(code).as_bytes();
-    let place = place.text().as_bytes();
-    let blank = blank_before(place);
-    write_five(
-        err,
-        b"apex: application refused: A",
-        code,
-        blank,
-        place,
-        b"\n",
-    )
+    let code = buffer.format(code);
+    let place = place.text();
+    let place = (blank_before(place), (place, "\n"));
+    ("apex: application refused: A", (code, place)).write_to(err)
 }
 
 /// Writes which line of the script was refused, and why.
@@ -111,15 +104,14 @@ fn say_command<E: Out>(err: &mut E, line: u64, why: u8) -> Result<(), Failed>
     ensures cause { IsErr result → Rose (E.faults err.old) (E.faults err.new) }
 {
     let (mut first, mut second) = (Buffer::new(), Buffer::new());
-    let line = first.format(line).as_bytes();
-    let why = second.format(why).as_bytes();
-    write_five(err, b"apex: script line ", line, b" refused: S", why, b"\n")
+    let (line, why) = (first.format(line), second.format(why));
+    ("apex: script line ", (line, (" refused: S", (why, "\n")))).write_to(err)
 }
 
-fn blank_before(place: &[u8]) -> &'static [u8]
+fn blank_before(place: &str) -> &'static str
     ensures { result.now ≡ blank_before place.now }
 {
-    if place.is_empty() { b"" } else { b" " }
+    if place.is_empty() { "" } else { " " }
 }
 
 /// Writes which line of an input was refused, and why.
@@ -131,17 +123,16 @@ fn say_line<E: Out>(err: &mut E, file: &Name, line: u64, cause: LineCause) -> Re
     ensures cause { IsErr result → Rose (E.faults err.old) (E.faults err.new) }
 {
     let mut buffer = Buffer::new();
-    let line = buffer.format(line).as_bytes();
-    let file = file.text().as_bytes();
-    write_five(err, b"apex: line ", line, b" of ", file, cause_text(cause))
+    let place = (" of ", (file.text(), cause_text(cause)));
+    ("apex: line ", (buffer.format(line), place)).write_to(err)
 }
 
-fn cause_text(cause: LineCause) -> &'static [u8]
+fn cause_text(cause: LineCause) -> &'static str
     ensures { result.now ≡ cause_text cause }
 {
     match cause {
-        LineCause::TooLong => b" refused: too long\n",
-        LineCause::BadPair => b" refused: no pair\n",
-        LineCause::TooMany => b" refused: too many windows\n",
+        LineCause::TooLong => " refused: too long\n",
+        LineCause::BadPair => " refused: no pair\n",
+        LineCause::TooMany => " refused: too many windows\n",
     }
 }

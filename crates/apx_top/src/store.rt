@@ -8,11 +8,11 @@ ghost use Rattle.apx_pass.specs.Large.{IsLargeDataflow};
 ghost use Rattle.apx_top.specs.Store.{HoldsPrefix, storing_causes, LeftByCommit};
 
 use apx_dag::Dag;
-use apx_device::{KeepRefusal, Keeper};
+use apx_device::Keeper;
 use apx_input::Windows;
 use apx_load::Stop;
 use apx_mean::OnePass;
-use apx_tuple::{Bag, Short};
+use apx_tuple::Bag;
 use std::alloc::Global;
 
 /// Stores the rows of one window.
@@ -26,11 +26,7 @@ fn commit<K: Keeper>(keeper: &mut K, window: u32, rows: &Bag) -> Result<(), Stop
     ensures later { K.faults keeper.old ≤ K.faults keeper.new }
     ensures stop { IfErr result (IsCaused (record no_causes { store = Rose (K.faults keeper.old) (K.faults keeper.new) })) }
 {
-    match keeper.commit(window, rows.tuples()) {
-        Ok(()) => Ok(()),
-        Err(KeepRefusal::Failed) => Err(Stop::StoreFailed),
-        Err(KeepRefusal::Memory) => Err(Stop::Memory),
-    }
+    Ok(keeper.commit(window, rows.tuples())?)
 }
 
 /// The next window of a pass.
@@ -41,11 +37,7 @@ fn next_window<'a>(alloc: Global, pass: OnePass<'a>) -> Result<(OnePass<'a>, Bag
         × (r.1 ≡ rows_at pass.entry.flow (suc pass.entry.passed) (sink_of pass.entry.flow.nodes))) }
     ensures stop { IfErr result (IsCaused (record no_causes { large = IsLargeDataflow pass.entry.flow })) }
 {
-    match pass.next(alloc) {
-        Ok(passed) => Ok(passed),
-        Err(Short::Memory) => Err(Stop::Memory),
-        Err(Short::Large) => Err(Stop::Large),
-    }
+    Ok(pass.next(alloc)?)
 }
 
 /// Goes over the application once and stores each window that the keeper hasn't yet.
@@ -73,10 +65,7 @@ pub(crate) fn store_all<K: Keeper>(
         (storing_causes (dataflow_of dag.now inputs.now) (Rose (K.faults keeper.old) (K.faults keeper.new)))) }
 {
     let first = keeper.last();
-    let mut pass = match OnePass::new(alloc, dag, inputs) {
-        Ok(pass) => pass,
-        Err(_) => return Err(Stop::Memory),
-    };
+    let mut pass = OnePass::new(alloc, dag, inputs)?;
     for done in 0..windows {
         let (next, rows) = next_window(alloc, pass)?;
         pass = next;

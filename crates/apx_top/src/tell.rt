@@ -25,10 +25,7 @@ pub(crate) fn check<F: Folder, O: Out>(
         (output_change O.tells O.written O.faults out.old out.new) result) }
 {
     application(alloc, files, name)?;
-    match write_all(out, b"ok\n") {
-        Ok(()) => Ok(()),
-        Err(_) => Err(Stop::OutputFailed),
-    }
+    Ok(write_all(out, b"ok\n")?)
 }
 
 /// Judges an application, and writes its plan where it is accepted.
@@ -45,11 +42,6 @@ pub(crate) fn plan<F: Folder, O: Out>(
 {
     let dag = application(alloc, files, name)?;
     let mut text = Vec::new(alloc);
-    if plan_text(&dag, &mut text).is_err() {
-        return Err(Stop::Memory);
-    }
-    match write_all(out, &text) {
-        Ok(()) => Ok(()),
-        Err(_) => Err(Stop::OutputFailed),
-    }
+    plan_text(&dag, &mut text)?;
+    Ok(write_all(out, &text)?)
 }

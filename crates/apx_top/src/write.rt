@@ -1,5 +1,5 @@
-//! Writing whole pieces to an output.
-ghost use Rattle.std.specs.Prelude.{◌≡◌, ◌≤◌, ◌++◌, IsErr};
+//! Writing texts to an output, without taking memory.
+ghost use Rattle.std.specs.Prelude.{◌≡◌, ◌≤◌, ◌++◌, List, ℕ, IsErr};
 ghost use Rattle.apx_cause.specs.Cause.{Rose};
 ghost use Rattle.apx_top.specs.Sent.{HasWritten};
 
@@ -19,62 +19,33 @@ pub(crate) fn write_all<O: Out>(out: &mut O, piece: &[u8]) -> Result<(), Failed>
     Ok(())
 }
 
-/// Writes two pieces, one after the other.
-pub(crate) fn write_both<O: Out>(out: &mut O, first: &[u8], second: &[u8]) -> Result<(), Failed>
-    ensures written { HasWritten O.tells (first.now ++ second.now) result (O.written out.old) (O.written out.new) }
-    ensures later { O.faults out.old ≤ O.faults out.new }
-    ensures cause { IsErr result → Rose (O.faults out.old) (O.faults out.new) }
-{
-    write_all(out, first)?;
-    write_all(out, second)
+/// A text in pieces, one behind the other: `("line ", (number, "\n"))`.
+pub(crate) trait Text {
+    /// Its bytes.
+    ghost bytes: { Self → List ℕ };
+
+    /// Writes the whole text, or a front of it where the output fails.
+    fn write_to<O: Out>(&self, out: &mut O) -> Result<(), Failed>
+        ensures written { HasWritten O.tells (bytes self.now) result (O.written out.old) (O.written out.new) }
+        ensures later { O.faults out.old ≤ O.faults out.new }
+        ensures cause { IsErr result → Rose (O.faults out.old) (O.faults out.new) };
 }
 
-/// Writes three pieces, one after the other.
-pub(crate) fn write_three<O: Out>(
-    out: &mut O,
-    first: &[u8],
-    second: &[u8],
-    third: &[u8],
-) -> Result<(), Failed>
-    ensures written { HasWritten O.tells (first.now ++ (second.now ++ third.now)) result (O.written out.old) (O.written out.new) }
-    ensures later { O.faults out.old ≤ O.faults out.new }
-    ensures cause { IsErr result → Rose (O.faults out.old) (O.faults out.new) }
-{
-    write_all(out, first)?;
-    write_both(out, second, third)
+/// One piece.
+impl Text for &str {
+    ghost bytes = { λ piece. piece.now };
+
+    fn write_to<O: Out>(&self, out: &mut O) -> Result<(), Failed> {
+        write_all(out, self.as_bytes())
+    }
 }
 
-/// Writes four pieces, one after the other.
-pub(crate) fn write_four<O: Out>(
-    out: &mut O,
-    first: &[u8],
-    second: &[u8],
-    third: &[u8],
-    fourth: &[u8],
-) -> Result<(), Failed>
-    ensures written { HasWritten O.tells (first.now ++ (second.now ++ (third.now ++ fourth.now))) result
-        (O.written out.old) (O.written out.new) }
-    ensures later { O.faults out.old ≤ O.faults out.new }
-    ensures cause { IsErr result → Rose (O.faults out.old) (O.faults out.new) }
-{
-    write_all(out, first)?;
-    write_three(out, second, third, fourth)
-}
+/// Two texts, one after the other.
+impl<A: Text, B: Text> Text for (A, B) {
+    ghost bytes = { λ pair. A.bytes pair.0 ++ B.bytes pair.1 };
 
-/// Writes five pieces, one after the other.
-pub(crate) fn write_five<O: Out>(
-    out: &mut O,
-    first: &[u8],
-    second: &[u8],
-    third: &[u8],
-    fourth: &[u8],
-    fifth: &[u8],
-) -> Result<(), Failed>
-    ensures written { HasWritten O.tells (first.now ++ (second.now ++ (third.now ++ (fourth.now ++ fifth.now)))) result
-        (O.written out.old) (O.written out.new) }
-    ensures later { O.faults out.old ≤ O.faults out.new }
-    ensures cause { IsErr result → Rose (O.faults out.old) (O.faults out.new) }
-{
-    write_all(out, first)?;
-    write_four(out, second, third, fourth, fifth)
+    fn write_to<O: Out>(&self, out: &mut O) -> Result<(), Failed> {
+        self.0.write_to(out)?;
+        self.1.write_to(out)
+    }
 }

@@ -2,8 +2,7 @@ use Rattle.std.proofs.Common.{◌≡◌, ◌<◌, ◌+◌, arith, sym, ap, ◌�
 use Rattle.std.specs.Prelude.{IsTrue}
 use Rattle.apx_pass.specs.Pass.{windows}
 use Rattle.apx_mean.specs.Passing.{Passing, dataflow_of}
-use Rattle.apx_top.specs.Loop.{HoldsFirst}
-use Rattle.apx_top.proofs.Storing.{holds-at, holds-more, prefix-of, left-prefix, rows-next}
+use Rattle.apx_top.proofs.Storing.{HoldsFirst, holds-at, holds-more, prefix-of, left-prefix, rows-next}
 use Rattle.apx_top.proofs.store.store_all.Goals as goal
 use Rattle.apx_top.proofs.store.store_all.Goals.{then-first-done+in_ok-commit, else-first-done}
 
@@ -11,8 +10,8 @@ pub loop-done-init : goal.loop-done-init
 loop-done-init g c = record {
   sound = c.requires.sound;
   last = omega (arith, c.last-first.ensures.last);
-  flow = ap (λ (p : Passing). p.flow) c.in-Ok.ensures;
-  passed = ap (λ (p : Passing). p.passed) c.in-Ok.ensures;
+  flow = ap (λ (p : Passing). p.flow) c.in_ok-pass.ensures;
+  passed = ap (λ (p : Passing). p.passed) c.in_ok-pass.ensures;
   holds = λ t h. holds-at _ _ _ h (c.last-first.ensures.told t ∙ c.last-first.ensures.last);
   later = omega arith;
 }

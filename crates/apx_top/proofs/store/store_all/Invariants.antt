@@ -1,6 +1,6 @@
 use Rattle.std.proofs.Common.{◌≡◌, ◌≤◌, max, IsTrue}
 use Rattle.apx_mean.specs.Passing.{dataflow_of}
-use Rattle.apx_top.specs.Loop.{HoldsFirst}
+use Rattle.apx_top.proofs.Storing.{HoldsFirst}
 use Rattle.apx_top.specs.Store.{HoldsPrefix}
 use Rattle.apx_top.proofs.store.store_all.Given as goal
 

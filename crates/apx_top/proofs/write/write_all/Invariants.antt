@@ -1,5 +1,5 @@
 use Rattle.std.proofs.Common.{◌≤◌, IsTrue, length}
-use Rattle.apx_top.specs.Sent.{HasSent}
+use Rattle.apx_top.proofs.Sending.{HasSent}
 use Rattle.apx_top.proofs.write.write_all.Given as goal
 
 abbrev pub invariant-loop-rest : goal.invariant-loop-rest
