@@ -3,4 +3,3 @@ pub mod Loop
 pub mod Order
 pub mod Laws
 pub mod Writing
-pub mod Made

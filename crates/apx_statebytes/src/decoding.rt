@@ -57,7 +57,7 @@ fn first_form(alloc: Global, total: usize, bytes: &[u8]) -> Result<Progress, Sta
         return Err(StateFault::Bad { at });
     }
     Ok(Progress {
-        state: state_of(alloc, &rows)?,
+        state: state_of(alloc, rows)?,
         left: Bag::new(alloc),
         right: Bag::new(alloc),
     })
@@ -75,49 +75,42 @@ fn second_form(alloc: Global, total: usize, bytes: &[u8]) -> Result<Progress, St
         return Err(StateFault::Bad { at });
     }
     Ok(Progress {
-        state: state_of(alloc, &state)?,
-        left: bag_of(alloc, &left)?,
-        right: bag_of(alloc, &right)?,
+        state: state_of(alloc, state)?,
+        left: bag_of(alloc, left)?,
+        right: bag_of(alloc, right)?,
     })
 }
 
 // The state of these pairs.
-fn state_of(alloc: Global, rows: &[Row]) -> Result<State, AllocError>
-    requires { IsState rows.now }
-    ensures { IfOk result (λ state. state ≡ rows.now) }
+fn state_of(alloc: Global, rows: Vec<Row>) -> Result<State, AllocError>
+    requires { IsState rows.items }
+    ensures { IfOk result (λ state. state ≡ rows.items) }
 {
-    let mut state = State::new(alloc);
-    for (key, value) in rows {
-        match state.set(key.copy()?, *value) {
-            Ok(()) => {}
-            Err(Short::Memory) => return Err(AllocError),
-            Err(Short::Large) => unreachable!(),
-        }
+    match State::from_ascending(alloc, rows) {
+        Ok(state) => Ok(state),
+        Err(Short::Memory) => Err(AllocError),
+        Err(Short::Large) => unreachable!(),
     }
-    Ok(state)
 }
 
 // The bag of these rows.
-fn bag_of(alloc: Global, rows: &[Row]) -> Result<Bag, AllocError>
-    requires { IsBag (map tuple_of rows.now) }
-    ensures { IfOk result (λ bag. bag ≡ map tuple_of rows.now) }
+fn bag_of(alloc: Global, rows: Vec<Row>) -> Result<Bag, AllocError>
+    requires { IsBag (map tuple_of rows.items) }
+    ensures { IfOk result (λ bag. bag ≡ map tuple_of rows.items) }
 {
-    match Bag::of(tuples_of(alloc, rows)?) {
+    match Bag::from_ascending(tuples_of(alloc, rows)?) {
         Ok(bag) => Ok(bag),
         Err(Short::Memory) => Err(AllocError),
         Err(Short::Large) => unreachable!(),
     }
 }
 
-fn tuples_of(alloc: Global, rows: &[Row]) -> Result<Vec<Tuple>, AllocError>
-    ensures { IfOk result (λ tuples. tuples.items ≡ map tuple_of rows.now) }
+fn tuples_of(alloc: Global, rows: Vec<Row>) -> Result<Vec<Tuple>, AllocError>
+    ensures { IfOk result (λ tuples. tuples.items ≡ map tuple_of rows.items) }
 {
     let mut tuples = Vec::with_capacity(alloc, rows.len())?;
     for (key, value) in rows {
-        tuples.push(Tuple {
-            key: key.copy()?,
-            value: *value,
-        })?;
+        tuples.push(Tuple { key, value })?;
     }
     Ok(tuples)
 }
