@@ -14,11 +14,15 @@ commands="check plan sim"
 
 say() { printf './apex: %s\n' "$*" >&2; }
 
-# Whether the program is there and no source is newer than the mark of its build.
-is_current() {
-    [ -x "$program" ] && [ -e "$built" ] &&
-        [ -z "$(find "$top/crates.txt" "$top"/crates/*/{src,specs,proofs} -newer "$built" -print -quit 2>/dev/null)" ]
+# Whether the program is there and no source is newer than this mark.
+is_built_since() {
+    [ -x "$program" ] && [ -e "$1" ] &&
+        [ -z "$(find "$top/crates.txt" "$top"/crates/*/{src,specs,proofs} -newer "$1" -print -quit 2>/dev/null)" ]
 }
+
+# Whether the program is of the sources as they stand: this script built it, or the gate did, which links it
+# only once it is proved.
+is_current() { is_built_since "$built" || is_built_since "$program"; }
 
 # Whether the first word is the name of a command.
 is_command() { [ $# -gt 0 ] && [[ " $commands " == *" $1 "* ]]; }
