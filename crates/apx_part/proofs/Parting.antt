@@ -36,7 +36,7 @@ sources-there nodes order ordered o l =
     known k h b = let e : b.place < k = b.earlier in subst (λ q. q < length nodes) b.is (ordered.known b.place (omega arith))
 
 -- what a partition makes depends on what comes on those ports alone that its operator has
-pass_part-ports : (n i : ℕ) (role : Role) (app_windows : ℕ) (input : Option groups.Input) (w : ℕ) (progress : Progress) (left left' right right' : List Tuple) →
+pub pass_part-ports : (n i : ℕ) (role : Role) (app_windows : ℕ) (input : Option groups.Input) (w : ℕ) (progress : Progress) (left left' right right' : List Tuple) →
     OfPorts role (left ≡ left') (right ≡ right') → pass_part n i role app_windows input w progress left right ≡ pass_part n i role app_windows input w progress left' right'
 unfolding OfPorts pass_part
 pass_part-ports n i (Input kind file per_window) app_windows input w progress left left' right right' h = refl

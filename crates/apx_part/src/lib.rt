@@ -4,7 +4,7 @@
 //! carries on, its rows and its blocks. It calls no device.
 #![tactic(auto)]
 
-pub use window::{Done, PartId, work_window, work_window_of};
+pub use window::{Done, PartId, plan_of, work_window, work_window_of};
 
 mod closing;
 mod operator;

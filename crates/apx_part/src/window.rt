@@ -42,7 +42,7 @@ pub struct Done {
 }
 
 /// How the windows of the job are cut into blocks.
-fn plan_of(job: &Job) -> CutPlan
+pub fn plan_of(job: &Job) -> CutPlan
     ensures plan { result ≡ plan_in job.now }
     ensures limits { IsPlan result }
 {
