@@ -1,0 +1,4 @@
+pub mod Flows
+pub mod Members
+pub mod Short
+pub mod Steps

@@ -1,0 +1,2 @@
+//! Which keys the tuples of a run have: definitions and laws, and no code.
+#![tactic(auto)]
