@@ -1,4 +1,5 @@
 pub mod Coming
 pub mod Gathering
 pub mod Keeping
+pub mod Passed
 pub mod Turn

@@ -1,9 +1,11 @@
 //! The one pass over an application: every operator whole, window after window.
 //!
-//! [`OnePass`] goes on by a window at a time and gives the rows that reach the sink.
+//! [`OnePass`] goes on by a window at a time and gives the rows that reach the sink, and [`mean`] gives those of all windows
+//! of a job.
 #![tactic(auto)]
 
 pub use pass::OnePass;
+pub use whole::mean;
 
 mod came;
 mod gather;
@@ -11,3 +13,4 @@ mod operator;
 mod pass;
 #[cfg(test)]
 mod tests;
+mod whole;

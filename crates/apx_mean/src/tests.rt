@@ -2,10 +2,12 @@
 ghost use Rattle.std.specs.Prelude.{◌≡◌, ◌<◌};
 ghost use Rattle.apx_pass.specs.Pass as pass;
 
-use crate::OnePass;
+use crate::{OnePass, mean};
 use apx_dag::Dag;
 use apx_input::windows;
+use apx_job::Job;
 use apx_json::read_app;
+use apx_script::{Script, Settings};
 use apx_tuple::{Bag, InputKind};
 use std::alloc::Global;
 use std::test::Fail;
@@ -61,5 +63,24 @@ fn a_pass_gives_the_sinks_rows_window_by_window(rt: HostRuntime) -> Result<(), F
     assert_eq!(rt; rows[1].as_str(), "a=1 b=1 ");
     assert_eq!(rt; rows[2].as_str(), "");
     assert_eq!(rt; rows[3].as_str(), "a=3 ");
+    Ok(())
+}
+
+#[test]
+fn a_mean_numbers_the_windows_from_one(rt: HostRuntime) -> Result<(), Fail> {
+    let alloc = rt.alloc();
+    let dag = Dag::of(alloc, read_app(alloc, COUNTED.as_bytes())?)?;
+    let mut inputs = Vec::new(alloc);
+    inputs.push(windows(alloc, InputKind::Lines, 1, b"b\na\nb\n")?)?;
+    if inputs.len() != dag.inputs_before(dag.len()) {
+        return Err("one input")?;
+    }
+    let job = Job::of(alloc, dag, inputs, Script::new(alloc), Settings::default())?;
+    let mut text = String::new(alloc);
+    for (window, rows) in mean(alloc, &job)? {
+        let rows = shown(alloc, &rows)?;
+        text.push_str(format!(in alloc; "{window}: {rows}")?.as_str())?;
+    }
+    assert_eq!(rt; text.as_str(), "1: 2: a=1 b=1 3: ");
     Ok(())
 }
