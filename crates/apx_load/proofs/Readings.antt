@@ -10,7 +10,7 @@ use Rattle.apx_pass.specs.Pass.{Dataflow}
 use Rattle.apx_pass.specs.Script.{Line}
 use Rattle.apx_script.specs.declared.settings.Settings.{Settings}
 use Rattle.apx_cmd.specs.declared.commands.Command.{Command}
-use Rattle.apx_cmd.specs.declared.commands.Command.TheVariants.{Check, Plan, Sim}
+use Rattle.apx_cmd.specs.declared.commands.Command.TheVariants.{Check, Plan, Mean, Sim}
 use Rattle.apx_pass.specs.Job.{Job}
 use Rattle.apx_load.specs.declared.refusal.Refusal.{Refusal}
 use Rattle.apx_load.specs.declared.refusal.Refusal.TheVariants.{NoFile, FileTooLong}
@@ -116,12 +116,14 @@ module _ (R S : Reading) (of : IsOf R S) where
   accepted_by : (command : Command) → IsAcceptedBy R command → IsAcceptedBy S command
   accepted_by (Check app) is = (is.0, of-application app is.0 is.1)
   accepted_by (Plan app) is = (is.0, of-application app is.0 is.1)
+  accepted_by (Mean app base) is = (is.0, of-run app is.0 is.1)
   accepted_by (Sim app script settings order) is = (is.0, of-run-job app script settings is.0 is.1)
   accepted_by _ is = absurd is
 
   refused_by : (command : Command) (r : Refusal) → IsRefusedBy R command r → IsRefusedBy S command r
   refused_by (Check app) r is = of-application-refusal app r is
   refused_by (Plan app) r is = of-application-refusal app r is
+  refused_by (Mean app base) r is = of-run-refusal app r is
   refused_by (Sim app script settings order) r is = of-run-job-refusal app script settings r is
   refused_by _ r is = is
 

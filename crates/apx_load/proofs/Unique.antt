@@ -19,7 +19,7 @@ use Rattle.apx_load.specs.declared.refusal.LineCause.TheVariants as cause
 use Rattle.apx_load.specs.declared.refusal.Refusal.{Refusal}
 use Rattle.apx_load.specs.declared.refusal.Refusal.TheVariants.{NotACommand, NoFile, FileTooLong, NoJson, WrongShape, BrokenRule, RefusedLine, RefusedCommand, NotBuilt}
 use Rattle.apx_cmd.specs.declared.commands.Command.{Command}
-use Rattle.apx_cmd.specs.declared.commands.Command.TheVariants.{Check, Plan, Sim}
+use Rattle.apx_cmd.specs.declared.commands.Command.TheVariants.{Check, Plan, Mean, Sim}
 use Rattle.apx_cmd.specs.Commands.{command_of}
 use Rattle.apx_pass.specs.Script.{Line, RefusedLine as RefusedScript, script_of}
 use Rattle.apx_script.specs.declared.settings.Settings.{Settings}
@@ -482,18 +482,21 @@ module _ (told : List ℕ → Option (List ℕ)) where
   refused_by : (command : Command) (r s : Refusal) → IsRefusedBy (by_files told) command r → IsRefusedBy (by_files told) command s → r ≡ s
   refused_by (Check app) r s p q = (application_decided told app).refused r s p q
   refused_by (Plan app) r s p q = (application_decided told app).refused r s p q
+  refused_by (Mean app base) r s p q = (run_decided app).refused r s p q
   refused_by (Sim app script settings order) r s p q = (run_job_decided app script settings).refused r s p q
   refused_by _ r s p q = p ∙ sym q
 
   apart_by : (command : Command) (r : Refusal) → IsAcceptedBy (by_files told) command → IsRefusedBy (by_files told) command r → ⊥
   apart_by (Check app) r p q = (application_decided told app).apart p.0 r p.1 q
   apart_by (Plan app) r p q = (application_decided told app).apart p.0 r p.1 q
+  apart_by (Mean app base) r p q = (run_decided app).apart p.0 r p.1 q
   apart_by (Sim app script settings order) r p q = (run_job_decided app script settings).apart p.0 r p.1 q
   apart_by _ r p q = absurd p
 
   total_by : (command : Command) → (IsAcceptedBy (by_files told) command → ⊥) → ((r : Refusal) → IsRefusedBy (by_files told) command r → ⊥) → ⊥
   total_by (Check app) none unrefused = (application_decided told app).total (λ nodes is. none (nodes, is)) unrefused
   total_by (Plan app) none unrefused = (application_decided told app).total (λ nodes is. none (nodes, is)) unrefused
+  total_by (Mean app base) none unrefused = (run_decided app).total (λ flow is. none (flow, is)) unrefused
   total_by (Sim app script settings order) none unrefused = (run_job_decided app script settings).total (λ job is. none (job, is)) unrefused
   total_by _ none unrefused = unrefused NotBuilt refl
 

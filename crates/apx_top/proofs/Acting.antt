@@ -5,6 +5,7 @@ use Rattle.std.specs.Prelude.{option_map}
 use Rattle.std.specs.Option.{option_copied}
 use Rattle.std.specs.Borrow.{Bor}
 use Rattle.apx_device.specs.Folder.{Answer, AreTold}
+use Rattle.apx_device.specs.Out.{GotFront}
 use Rattle.apx_load.specs.Hearing.{HasHeard}
 use Rattle.apx_load.proofs.Heard.{heard_none}
 use Rattle.apx_pass.specs.Large.{IsLargeDataflow}
@@ -25,15 +26,15 @@ use Rattle.apx_pass.specs.Job.{Job}
 use Rattle.apx_plan.specs.Plan.{plan_text}
 use Rattle.apx_load.specs.Refusals.{Reading, by_answers, by_files, IsFileRefusal, IsApplication, IsApplicationRefusal, IsInputRefusal, IsInputsRefusal, IsRunRefusal}
 use Rattle.apx_load.specs.Jobs.{IsScriptRefusal, IsScriptedRefusal, IsJobRefusal, IsRunJob, IsRunJobRefusal}
-use Rattle.apx_load.specs.First.{AreAccepted, IsRefusal, of_words, of_files}
+use Rattle.apx_load.specs.First.{IsAcceptedBy, AreAccepted, IsRefusal, of_words, of_files}
 use Rattle.apx_load.specs.Stops.{Causes, IsCaused, no_causes, reading_causes, stop_of_words}
-use Rattle.apx_load.proofs.Readings.{by-told, of-accepted, of-refusal, of-run-job}
+use Rattle.apx_load.proofs.Readings.{by-told, of-accepted, of-refusal, of-run, of-run-job}
 use Rattle.apx_load.proofs.Stopping.{AreWeaker, caused_weaker}
 use Rattle.apx_load.proofs.Unique.{refusal-unique, accepted-or-refused}
 use Rattle.apx_top.specs.Changes.{StoreChange, OutputChange, Call, call_of}
 use Rattle.apx_top.specs.Store.{storing_causes}
 use Rattle.apx_top.specs.Run.{Told, HasRunTo, HasPassedTo, printing_causes, run_reading_causes, stopped_reading, passed}
-use Rattle.apx_top.specs.Plain.{judging_causes, LeavesOf, HasToldTo, ok_text, HasStayed, HasTold, HasPerformed, HasEnded, no_command, unread, performed, HasRefused, IsLargeRun, IsComplete}
+use Rattle.apx_top.specs.Plain.{Telling, of_application, of_pass, telling_causes, LeavesOf, HasToldTo, ok_text, HasStayed, HasTold, HasJudged, HasPerformed, HasEnded, no_command, unread, performed, HasRefused, IsLargeBy, IsLargeRun, IsComplete}
 
 -- what can stop a command at all: a refusal of its words and files; a file that can't be read; a fault of the store or of
 -- the output, once words and files were accepted; or a dataflow that is too large
@@ -53,19 +54,40 @@ HasCause reading words folder store output (Err stop) = IsCaused (ending_causes 
 
 -- ---- reading leaves nothing
 
--- a stop of reading leaves nothing of the output
-pub unwritten : (text : List Node → List ℕ) (application : List Node → Type 0) (output : OutputChange) (refuses : Refusal → Type 0) (answers : List Answer) (folder : Type 0) (stop : Stop) → IsCaused (reading_causes refuses answers folder) stop → output.after ≡ output.before → LeavesOf text application output stop
-unwritten text application output refuses answers folder (Refused refusal) is same = same
-unwritten text application output refuses answers folder (CannotRead name) is same = same
-unwritten text application output refuses answers folder StoreFailed is same = same
-unwritten text application output refuses answers folder OutputFailed is same = absurd is
-unwritten text application output refuses answers folder Memory is same = same
-unwritten text application output refuses answers folder Large is same = same
+-- a stop that isn't of an output leaves nothing of it
+pub unwritten : {X : Type 0} (telling : Telling X) (output : OutputChange) (causes : Causes) (stop : Stop) → (causes.output → ⊥) → IsCaused causes stop → output.after ≡ output.before → LeavesOf telling output stop
+unwritten telling output causes (Refused refusal) none is same = same
+unwritten telling output causes (CannotRead name) none is same = same
+unwritten telling output causes StoreFailed none is same = same
+unwritten telling output causes OutputFailed none is same = absurd (none is)
+unwritten telling output causes Memory none is same = same
+unwritten telling output causes Large none is same = same
 
--- a stop of reading is one of judging
-pub judge-cause : (name : List ℕ) (answers : List Answer) (folder output : Type 0) (stop : Stop) → IsCaused (reading_causes (IsApplicationRefusal (by_answers answers) name) answers folder) stop → IsCaused (judging_causes name answers folder output) stop
-judge-cause name answers folder output stop is =
-    caused_weaker _ _ stop (record { refuses = λ refusal r. r; unread = λ file r. r; store = λ none. none; output = λ none. absurd none; large = λ none. none }) is
+module _ {X : Type 0} (telling : Telling X) (answers : List Answer) (folder : Type 0) (output : OutputChange) where
+  -- a stop of reading is one of telling
+  pub telling-cause : (stop : Stop) → IsCaused (reading_causes telling.refused answers folder) stop → IsCaused (telling_causes telling answers folder output.rose) stop
+  telling-cause stop is =
+      caused_weaker _ _ stop (record { refuses = λ refusal r. r; unread = λ file r. r; store = λ none. none; output = λ none. absurd none; large = λ none. absurd none }) is
+
+  -- it stopped at its files
+  pub told-nothing : (stop : Stop) → IsCaused (reading_causes telling.refused answers folder) stop → output.after ≡ output.before → HasToldTo telling answers folder output (Err stop)
+  told-nothing stop is same = (telling-cause stop is, unwritten telling output (reading_causes telling.refused answers folder) stop (λ none. none) is same)
+
+  module _ (told : X) (accepted : telling.accepted told) where
+    -- it stopped before its text was made
+    pub told-large : (stop : Stop) → IsCaused (record no_causes { large = telling.large told }) stop → output.after ≡ output.before → HasToldTo telling answers folder output (Err stop)
+    told-large stop is same = (
+      caused_weaker _ _ stop (record { refuses = λ refusal none. absurd none; unread = λ file none. absurd none; store = λ none. none; output = λ none. absurd none; large = λ large. (told, accepted, large) }) is,
+      unwritten telling output (record no_causes { large = telling.large told }) stop (λ none. none) is same,
+    )
+
+    -- it stopped while its text was written
+    pub told-some : (text : List ℕ) → text ≡ telling.text told → output.rose → (IsTrue output.tells → GotFront text output.before output.after) → HasToldTo telling answers folder output (Err OutputFailed)
+    told-some text e rose got = ((rose, (told, accepted)), (λ t. (told, accepted, subst (λ (x : List ℕ). GotFront x output.before output.after) e (got t))))
+
+    -- it was told
+    pub told-all : (text : List ℕ) → text ≡ telling.text told → (IsTrue output.tells → output.after ≡ output.before ++ text) → HasToldTo telling answers folder output (Ok tt)
+    told-all text e got = (told, accepted, (λ t. got t ∙ ap (λ x. output.before ++ x) e))
 
 -- ---- no refusal of a file is one of words
 
@@ -121,17 +143,30 @@ module _ (words : List (List ℕ)) (call : Call) where
   unheard unread_words.Usage none same unprinted is = no_command is (record { is = refl; unread = none; same = same; unprinted = unprinted })
   unheard unread_words.Memory none same unprinted is = unread is (record { is = refl; unread = none; same = same; unprinted = unprinted })
 
-  told_end : (text : List Node → List ℕ) (name : List ℕ) (end : Result ⊤ Stop) → ((nodes : List Node) → IsApplication (by_answers call.answers) name nodes → AreAccepted (by_answers call.answers) words) → ((r : Refusal) → IsApplicationRefusal (by_answers call.answers) name r → IsRefusal (by_answers call.answers) words r) → HasToldTo text name call.answers call.folder call.output end → HasCause (by_answers call.answers) words call.folder call.store.rose call.output.rose end
-  told_end text name (Ok v) accepted refused is = accepted is.0 is.1
-  told_end text name (Err stop) accepted refused is =
-      caused_weaker (judging_causes name call.answers call.folder call.output.rose) (ending_causes (by_answers call.answers) words call.folder call.store.rose call.output.rose) stop
+  told_end : {X : Type 0} (telling : Telling X) (end : Result ⊤ Stop) → ((told : X) → telling.accepted told → AreAccepted (by_answers call.answers) words) → ((r : Refusal) → telling.refused r → IsRefusal (by_answers call.answers) words r) → ((told : X) → telling.accepted told → telling.large told → IsLargeRun (by_answers call.answers) words) → HasToldTo telling call.answers call.folder call.output end → HasCause (by_answers call.answers) words call.folder call.store.rose call.output.rose end
+  told_end telling (Ok v) accepted refused large is = accepted is.0 is.1
+  told_end telling (Err stop) accepted refused large is =
+      caused_weaker (telling_causes telling call.answers call.folder call.output.rose) (ending_causes (by_answers call.answers) words call.folder call.store.rose call.output.rose) stop
       (record {
         refuses = refused;
         unread = λ file r. r.0;
         store = λ none. absurd none;
         output = λ o. (o.0, accepted o.1.0 o.1.1);
-        large = λ none. absurd none;
+        large = λ l. large l.0 l.1 l.2;
       }) is.0
+
+  -- an application is told
+  judged_end : (text : List Node → List ℕ) (name : List ℕ) (end : Result ⊤ Stop) → ((nodes : List Node) → IsApplication (by_answers call.answers) name nodes → AreAccepted (by_answers call.answers) words) → ((r : Refusal) → IsApplicationRefusal (by_answers call.answers) name r → IsRefusal (by_answers call.answers) words r) → HasJudged text name call end → HasCause (by_answers call.answers) words call.folder call.store.rose call.output.rose end
+  judged_end text name end accepted refused is = told_end (of_application text (by_answers call.answers) name) end accepted refused (λ nodes a none. absurd none) is.judged.told
+
+  -- the rows of the one pass are told
+  mean_end : (app : List ℕ) (base : ℕ) (end : Result ⊤ Stop) → command_of words ≡ Some (Mean app base) → HasTold (of_pass base (by_answers call.answers) app) call end → HasCause (by_answers call.answers) words call.folder call.store.rose call.output.rose end
+  mean_end app base end command is =
+      told_end (of_pass base (by_answers call.answers) app) end
+      (λ flow a. record { command = Mean app base; words_are = command; files = (flow, a) })
+      (λ r refused. of_files (Mean app base) r command refused)
+      (λ flow a large. record { command = Mean app base; words_are = command; large = (flow, a, large) })
+      is.told
 
   accepted : (told : Told) (order : ℕ) (job : Job) → command_of words ≡ Some (Sim told.app told.script told.settings order) → IsRunJob (by_answers call.answers) told.app told.script told.settings job → AreAccepted (by_answers call.answers) words
   accepted told order job command is = record { command = Sim told.app told.script told.settings order; words_are = command; files = (job, is) }
@@ -154,7 +189,7 @@ module _ (words : List (List ℕ)) (call : Call) where
         unread = λ file none. absurd none;
         store = λ rose. (rose, accepted told order job command is);
         output = λ none. absurd none;
-        large = λ large. record { told = told; order = order; command = command; job = job; accepted = is; large = large };
+        large = λ large. record { command = Sim told.app told.script told.settings order; words_are = command; large = (job, is, large) };
       }) some.cause
   run_end told order (Err stop) command (passed job is (inr some)) =
       caused_weaker (printing_causes call.store.rose call.output.rose) (ending_causes (by_answers call.answers) words call.folder call.store.rose call.output.rose) stop
@@ -170,10 +205,10 @@ module _ (words : List (List ℕ)) (call : Call) where
   unbuilt_end command end refused stayed = rw stayed.is refused
 
   command_end : (command : Command) (end : Result ⊤ Stop) → command_of words ≡ Some command → HasPerformed command call end → HasCause (by_answers call.answers) words call.folder call.store.rose call.output.rose end
-  command_end (Check app) end is told = told_end ok_text app end (λ nodes a. record { command = Check app; words_are = is; files = (nodes, a) }) (λ r refused. of_files (Check app) r is refused) told.told
-  command_end (Plan app) end is told = told_end plan_text app end (λ nodes a. record { command = Plan app; words_are = is; files = (nodes, a) }) (λ r refused. of_files (Plan app) r is refused) told.told
+  command_end (Check app) end is told = judged_end ok_text app end (λ nodes a. record { command = Check app; words_are = is; files = (nodes, a) }) (λ r refused. of_files (Check app) r is refused) told
+  command_end (Plan app) end is told = judged_end plan_text app end (λ nodes a. record { command = Plan app; words_are = is; files = (nodes, a) }) (λ r refused. of_files (Plan app) r is refused) told
+  command_end (Mean app base) end is told = mean_end app base end is told
   command_end (Sim app script settings order) end is ran = run_end (record { app = app; script = script; settings = settings }) order end is ran
-  command_end (Mean app base) end is stayed = unbuilt_end (Mean app base) end (of_files (Mean app base) NotBuilt is refl) stayed
   command_end (Run app script settings threads) end is stayed = unbuilt_end (Run app script settings threads) end (of_files (Run app script settings threads) NotBuilt is refl) stayed
   command_end (Gen number size) end is stayed = unbuilt_end (Gen number size) end (of_files (Gen number size) NotBuilt is refl) stayed
   command_end (Group app groups script settings) end is stayed = unbuilt_end (Group app groups script settings) end (of_files (Group app groups script settings) NotBuilt is refl) stayed
@@ -197,6 +232,7 @@ module _ (words : List (List ℕ)) (call : Call) where
   apart r (of_words none) e = none
   apart r (of_files (Check app) refusal command is) e = absurd (application_apart (by_answers call.answers) app (subst (IsApplicationRefusal (by_answers call.answers) app) e is))
   apart r (of_files (Plan app) refusal command is) e = absurd (application_apart (by_answers call.answers) app (subst (IsApplicationRefusal (by_answers call.answers) app) e is))
+  apart r (of_files (Mean app base) refusal command is) e = absurd (run_apart (by_answers call.answers) app (subst (IsRunRefusal (by_answers call.answers) app) e is))
   apart r (of_files (Sim app script settings order) refusal command is) e = absurd (run_job_apart (by_answers call.answers) app script settings (subst (IsRunJobRefusal (by_answers call.answers) app script settings) e is))
   apart r (of_files _ refusal command is) e = let built : refusal ≡ NotBuilt = is in cc
 
@@ -213,18 +249,21 @@ module _ (words : List (List ℕ)) (call : Call) where
     told_refusal : (r : Refusal) → IsRefusal (by_answers call.answers) words r → IsRefusal (by_files files) words r
     told_refusal r is = of-refusal (by_answers call.answers) (by_files files) (by-told files call.answers told) words r is
 
+    large_by : (command : Command) → IsLargeBy (by_answers call.answers) command → IsLargeBy (by_files files) command
+    large_by (Mean app base) is = (is.0, of-run (by_answers call.answers) (by_files files) (by-told files call.answers told) app is.0 is.1, is.2)
+    large_by (Sim app script settings order) is = (is.0, of-run-job (by_answers call.answers) (by_files files) (by-told files call.answers told) app script settings is.0 is.1, is.2)
+    large_by _ is = absurd is
+
     told_large : IsLargeRun (by_answers call.answers) words → IsLargeRun (by_files files) words
-    told_large is = record {
-      told = is.told;
-      order = is.order;
-      command = is.command;
-      job = is.job;
-      accepted = of-run-job (by_answers call.answers) (by_files files) (by-told files call.answers told) is.told.app is.told.script is.told.settings is.job is.accepted;
-      large = is.large;
-    }
+    told_large is = record { command = is.command; words_are = is.words_are; large = large_by is.command is.large }
+
+    accepted_large : (command : Command) → IsLargeBy (by_files files) command → IsAcceptedBy (by_files files) command
+    accepted_large (Mean app base) is = (is.0, is.1)
+    accepted_large (Sim app script settings order) is = (is.0, is.1)
+    accepted_large _ is = absurd is
 
     large_accepted : IsLargeRun (by_files files) words → AreAccepted (by_files files) words
-    large_accepted is = record { command = Sim is.told.app is.told.script is.told.settings is.order; words_are = is.command; files = (is.job, is.accepted) }
+    large_accepted is = record { command = is.command; words_are = is.words_are; files = accepted_large is.command is.large }
 
     refused_by_cause : (end : Result ⊤ Stop) (r : Refusal) → IsRefusal (by_files files) words r → HasCause (by_answers call.answers) words call.folder call.store.rose call.output.rose end → HasRefused call.folder r end
     refused_by_cause (Ok v) r is cause = accepted-or-refused files words r (told_accepted cause) is
@@ -264,6 +303,7 @@ module _ (words : List (List ℕ)) (call : Call) where
 abbrev pub IsUnbuilt : Command → Type 0
 IsUnbuilt (Check app) = ⊥
 IsUnbuilt (Plan app) = ⊥
+IsUnbuilt (Mean app base) = ⊥
 IsUnbuilt (Sim app script settings order) = ⊥
 IsUnbuilt _ = ⊤
 
@@ -274,8 +314,8 @@ module _ (tells : Bool) (files : List ℕ → Option (List ℕ)) (heard : List A
   unbuilt_by : (command : Command) → IsUnbuilt command → HasHeard tells files heard heard (λ answers. HasPerformed command (call_of answers folder store output) (Err (Refused NotBuilt)))
   unbuilt_by (Check app) is = absurd is
   unbuilt_by (Plan app) is = absurd is
+  unbuilt_by (Mean app base) is = absurd is
   unbuilt_by (Sim app script settings order) is = absurd is
-  unbuilt_by (Mean app base) is = stayed_heard
   unbuilt_by (Run app script settings threads) is = stayed_heard
   unbuilt_by (Gen number size) is = stayed_heard
   unbuilt_by (Group app groups script settings) is = stayed_heard

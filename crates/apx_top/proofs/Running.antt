@@ -5,9 +5,6 @@ use Rattle.apx_cause.specs.Cause.{Rose}
 use Rattle.apx_tuple.specs.declared.tuple.Tuple.{Tuple}
 use Rattle.apx_device.specs.Out.{GotFront}
 use Rattle.apx_pass.specs.Pass.{windows, mean}
-use Rattle.apx_pass.specs.Graph.{Node}
-use Rattle.apx_pass.specs.Groups.{Input}
-use Rattle.apx_mean.specs.Passing.{dataflow_of}
 use Rattle.apx_pass.specs.Job.{Job}
 use Rattle.apx_pass.specs.Texts.{windows_text}
 use Rattle.apx_load.specs.declared.stop.Stop.{Stop}
@@ -30,10 +27,6 @@ print-cause part store output stop longer is =
 
 pub Rose-later : (before mid now : ℕ) → before ≤ mid → Rose mid now → Rose before now
 Rose-later before mid now later rose = omega (arith, rose)
-
--- the dataflow of a job, by its parts
-pub flow_is : (job : Job) (nodes : List Node) (inputs : List Input) → nodes ≡ job.flow.nodes → inputs ≡ job.flow.inputs → dataflow_of nodes inputs ≡ job.flow
-flow_is job nodes inputs p q = λ i. record { nodes = p i; inputs = q i }
 
 module _ (job : Job) (store : StoreChange) (output : OutputChange) (mid : List (List Tuple)) (n : ℕ) (count : n ≡ windows job.flow) (last : store.last_after ≡ max store.last_before n) (all : IsTrue store.tells → HoldsPrefix job.flow store.before → mid ≡ mean job.flow) (same : store.after ≡ mid) where
   has_stored : HasStored job.flow store

@@ -12,9 +12,13 @@ use Rattle.apx_load.specs.Stops.{Causes, IsCaused, no_causes, reading_causes}
 use Rattle.apx_top.specs.Changes.{StoreChange, OutputChange, Call}
 use Rattle.apx_top.specs.Store.{HoldsPrefix, storing_causes}
 
+-- the texts of the windows that the one pass gives, over a base second
+abbrev pub mean_text : ℕ → Dataflow → List ℕ
+mean_text base flow = windows_text base 1 (mean flow)
+
 -- the texts of the job's windows, over its base
 abbrev pub run_text : Job → List ℕ
-run_text job = windows_text job.settings.base 1 (mean job.flow)
+run_text job = mean_text job.settings.base job.flow
 
 -- All windows of the dataflow are stored, where the store began with the first of them.
 pub record HasStored (flow : Dataflow) (store : StoreChange) : Type 0 where

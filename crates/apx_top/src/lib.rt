@@ -5,6 +5,7 @@ pub use plain::{Devices, Ended, apex_plain};
 
 #[cfg(test)]
 mod examples;
+mod mean;
 mod plain;
 mod print;
 mod say;

@@ -10,6 +10,7 @@ ghost use Rattle.apx_cmd.specs.Commands.{command_of};
 ghost use Rattle.apx_top.specs.Changes.{call_of, store_change, output_change};
 ghost use Rattle.apx_top.specs.Plain.{HasPerformed, HasEnded, HasRefused, IsLargeRun, IsComplete, status_after, line_after, HasSaid};
 
+use crate::mean::mean;
 use crate::say::{say, status};
 use crate::sim::sim;
 use crate::tell::{check, plan};
@@ -60,6 +61,7 @@ fn perform<F: Folder, K: Keeper, O: Out>(
     match command {
         Command::Check { app } => check(alloc, files, app.text(), out),
         Command::Plan { app } => plan(alloc, files, app.text(), out),
+        Command::Mean { app, base } => mean(alloc, files, app.text(), *base, out),
         Command::Sim {
             app,
             script,
@@ -74,7 +76,6 @@ fn perform<F: Folder, K: Keeper, O: Out>(
             keeper,
             out,
         ),
-        Command::Mean { .. } => Err(Stop::Refused(Refusal::NotBuilt)),
         Command::Run { .. } => Err(Stop::Refused(Refusal::NotBuilt)),
         Command::Gen { .. } => Err(Stop::Refused(Refusal::NotBuilt)),
         Command::Group { .. } => Err(Stop::Refused(Refusal::NotBuilt)),
@@ -103,8 +104,9 @@ fn act<F: Folder, K: Keeper, O: Out>(
 }
 
 /// Does what the words ask for: `check APP` judges an application, `plan APP` prints its operators and their
-/// partitions, and `sim APP` with its options runs it on one thread. The other commands aren't built yet,
-/// and no more is a run whose script commands something.
+/// partitions, `mean APP` prints the rows of each window of one pass over it and its inputs, and `sim APP` with its
+/// options runs it on one thread. The other commands aren't built yet, and no more is a run whose script commands
+/// something.
 ///
 /// A run stores each window's rows in one commit and then prints them all, a line for each row. Its
 /// status is 0, or else that of the first thing that stopped it: 1 for words that are no command, or that

@@ -81,6 +81,6 @@ fn pass<K: Keeper, O: Out>(
 {
     let windows = job.windows();
     let settings = job.settings();
-    store_all(alloc, job.dag(), job.inputs(), windows, keeper)?;
+    store_all(alloc, job, keeper)?;
     print_all(alloc, keeper, settings.base, windows, out)
 }

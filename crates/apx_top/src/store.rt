@@ -1,15 +1,13 @@
 //! Storing the windows of a run.
 ghost use Rattle.std.specs.Prelude.{◌≡◌, ◌<◌, ◌≤◌, max, ◌+◌, ◌++◌, ◌∷◌, [], suc, IsTrue, IfOk, IfErr, OnOk};
 ghost use Rattle.apx_cause.specs.Cause.{Rose};
-ghost use Rattle.apx_pass.specs.Pass.{windows, windows_of, rows_at, sink_of, mean};
-ghost use Rattle.apx_mean.specs.Passing.{dataflow_of};
+ghost use Rattle.apx_pass.specs.Pass.{windows, rows_at, sink_of, mean};
 ghost use Rattle.apx_load.specs.Stops.{IsCaused, no_causes};
 ghost use Rattle.apx_pass.specs.Large.{IsLargeDataflow};
 ghost use Rattle.apx_top.specs.Store.{HoldsPrefix, storing_causes, LeftByCommit};
 
-use apx_dag::Dag;
 use apx_device::Keeper;
-use apx_input::Windows;
+use apx_job::Job;
 use apx_load::Stop;
 use apx_mean::OnePass;
 use apx_tuple::Bag;
@@ -40,32 +38,22 @@ fn next_window<'a>(alloc: Global, pass: OnePass<'a>) -> Result<(OnePass<'a>, Bag
     Ok(pass.next(alloc)?)
 }
 
-/// Goes over the application once and stores each window that the keeper hasn't yet.
+/// Goes over a job once and stores each window that the keeper hasn't yet.
 ///
 /// Where the keeper began with the rows of the first windows, it has those of some first windows
 /// whatever comes, and after an Ok those of all.
-pub(crate) fn store_all<K: Keeper>(
-    alloc: Global,
-    dag: &Dag,
-    inputs: &[Windows],
-    windows: u32,
-    keeper: &mut K,
-) -> Result<(), Stop>
+pub(crate) fn store_all<K: Keeper>(alloc: Global, job: &Job, keeper: &mut K) -> Result<(), Stop>
     requires sound { IsTrue (K.sound keeper.old) }
-    requires windows { windows ≡ windows_of inputs.now }
-    requires few { windows ≤ 20000 }
-    ensures prefix { IsTrue K.tells → HoldsPrefix (dataflow_of dag.now inputs.now) (K.stored keeper.old) →
-        HoldsPrefix (dataflow_of dag.now inputs.now) (K.stored keeper.new) }
-    ensures all { IsTrue K.tells → HoldsPrefix (dataflow_of dag.now inputs.now) (K.stored keeper.old) →
-        OnOk result (K.stored keeper.new ≡ mean (dataflow_of dag.now inputs.now)) }
-    ensures last { OnOk result (K.last keeper.new ≡ max (K.last keeper.old) windows) }
+    ensures prefix { IsTrue K.tells → HoldsPrefix job.now.flow (K.stored keeper.old) → HoldsPrefix job.now.flow (K.stored keeper.new) }
+    ensures all { IsTrue K.tells → HoldsPrefix job.now.flow (K.stored keeper.old) → OnOk result (K.stored keeper.new ≡ mean job.now.flow) }
+    ensures last { OnOk result (K.last keeper.new ≡ max (K.last keeper.old) (windows job.now.flow)) }
     ensures sound { OnOk result (IsTrue (K.sound keeper.new)) }
     ensures later { K.faults keeper.old ≤ K.faults keeper.new }
-    ensures stop { IfErr result (IsCaused
-        (storing_causes (dataflow_of dag.now inputs.now) (Rose (K.faults keeper.old) (K.faults keeper.new)))) }
+    ensures stop { IfErr result (IsCaused (storing_causes job.now.flow (Rose (K.faults keeper.old) (K.faults keeper.new)))) }
 {
     let first = keeper.last();
-    let mut pass = OnePass::new(alloc, dag, inputs)?;
+    let windows = job.windows();
+    let mut pass = OnePass::new(alloc, job.dag(), job.inputs())?;
     for done in 0..windows {
         let (next, rows) = next_window(alloc, pass)?;
         pass = next;

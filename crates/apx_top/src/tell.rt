@@ -2,9 +2,10 @@
 ghost use Rattle.std.specs.Prelude.{◌≡◌, length};
 ghost use Rattle.apx_cause.specs.Cause.{Rose};
 ghost use Rattle.apx_load.specs.Hearing.{HasHeard};
+ghost use Rattle.apx_load.specs.Refusals.{by_answers};
 ghost use Rattle.apx_plan.specs.Plan as plans;
 ghost use Rattle.apx_top.specs.Changes.{output_change};
-ghost use Rattle.apx_top.specs.Plain.{HasToldTo, ok_text};
+ghost use Rattle.apx_top.specs.Plain.{HasToldTo, of_application, ok_text};
 
 use crate::write::write_all;
 use apx_device::{Folder, Out};
@@ -21,8 +22,8 @@ pub(crate) fn check<F: Folder, O: Out>(
 ) -> Result<(), Stop>
     ensures told { F.told files.new ≡ F.told files.old }
     ensures heard { HasHeard F.tells (F.told files.old) (F.heard files.old) (F.heard files.new) (λ answers.
-        (length answers ≡ 1) × HasToldTo ok_text name.now answers (Rose (F.faults files.old) (F.faults files.new))
-        (output_change O.tells O.written O.faults out.old out.new) result) }
+        (length answers ≡ 1) × HasToldTo (of_application ok_text (by_answers answers) name.now) answers
+        (Rose (F.faults files.old) (F.faults files.new)) (output_change O.tells O.written O.faults out.old out.new) result) }
 {
     application(alloc, files, name)?;
     Ok(write_all(out, b"ok\n")?)
@@ -37,8 +38,8 @@ pub(crate) fn plan<F: Folder, O: Out>(
 ) -> Result<(), Stop>
     ensures told { F.told files.new ≡ F.told files.old }
     ensures heard { HasHeard F.tells (F.told files.old) (F.heard files.old) (F.heard files.new) (λ answers.
-        (length answers ≡ 1) × HasToldTo plans.plan_text name.now answers (Rose (F.faults files.old) (F.faults files.new))
-        (output_change O.tells O.written O.faults out.old out.new) result) }
+        (length answers ≡ 1) × HasToldTo (of_application plans.plan_text (by_answers answers) name.now) answers
+        (Rose (F.faults files.old) (F.faults files.new)) (output_change O.tells O.written O.faults out.old out.new) result) }
 {
     let dag = application(alloc, files, name)?;
     let mut text = Vec::new(alloc);

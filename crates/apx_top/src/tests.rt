@@ -323,8 +323,8 @@ fn other_words_are_no_command(rt: HostRuntime) -> Result<(), Fail> {
         &["sim", ""],
         &["check", "-app.json"],
         &["sim", "app.json", "--base", "1", "--base", "1"],
+        &["mean", "app.json", "--order", "1"],
         // These are commands that aren't built yet.
-        &["mean", "app.json"],
         &["run", "app.json"],
         &["gen", "7", "1000"],
         &["group", "app.json", "groups"],
@@ -585,6 +585,34 @@ fn a_stored_window_is_printed_as_it_stands(rt: HostRuntime) -> Result<(), Fail> 
     let left = run_on(alloc, &["sim", "app.json"], &mut files, keeper, out)?;
     let text = "window 1 4294967296000000000 0\nwindow 2 4294967296000000001 1\na\t2\n";
     expect(&rt, &left, 0, text, "", "|a=2 |");
+    Ok(())
+}
+
+/// What the words leave of the counting of words, over a store with a window and an output of which these writes fail.
+fn mean_on(alloc: Global, given: &[&str], fails: Vec<u64>) -> Result<Left, Fail> {
+    let app = ("app.json", WORDS_COUNTED);
+    let mut files = folder(alloc, &[app, ("in.txt", "a b\na\nc a\n")])?;
+    let mut keeper = MemoryKeeper::new(alloc);
+    keeper.commit(1, &[])?;
+    let out = MemoryOut::failing(alloc, fails);
+    run_on(alloc, given, &mut files, keeper, out)
+}
+
+#[test]
+fn a_mean_is_printed_and_not_stored(rt: HostRuntime) -> Result<(), Fail> {
+    let alloc = rt.alloc();
+    let left = mean_on(alloc, &["mean", "app.json"], Vec::new(alloc))?;
+    let text =
+        "window 1 4294967296000000000 2\na\t2\nb\t1\nwindow 2 4294967296000000001 2\na\t3\nc\t1\n";
+    expect(&rt, &left, 0, text, "", "|");
+    let words: &[&str] = &["mean", "app.json", "--base", "1"];
+    let left = mean_on(alloc, words, Vec::new(alloc))?;
+    let text = "window 1 4294967296 2\na\t2\nb\t1\nwindow 2 4294967297 2\na\t3\nc\t1\n";
+    expect(&rt, &left, 0, text, "", "|");
+    let left = mean_on(alloc, &["mean", "app.json"], [1].to_vec(alloc)?)?;
+    expect(&rt, &left, 12, "", "", "|");
+    let left = run(alloc, &["mean", "app.json"], &[("app.json", COUNTED)])?;
+    expect_refused(&rt, &left, 3, "apex: no file in.txt\n");
     Ok(())
 }
 

@@ -10,9 +10,6 @@ returns-in-Sim-clause-heard g c =
     (λ answers ran. told_by c.text-in-Sim.result.now c.in-Sim.app c.as_ref.result c.in-Sim.script c.in-Sim.settings c.in-Sim.order c.args.command.now _ c.sim.result c.text-in-Sim.ensures c.as_ref.ensures.value c.in-Sim.is ran)
     c.sim.ensures.heard
 
-pub returns-in-Mean-clause-heard : goal.returns-in-Mean-clause-heard
-returns-in-Mean-clause-heard g c = unbuilt_heard g.F.Folder.tells (g.F.Folder.told c.args.files.now) (g.F.Folder.heard c.args.files.now) _ _ _ refl refl c.args.command.now _ c.in-Mean.is tt
-
 pub returns-in-Run-clause-heard : goal.returns-in-Run-clause-heard
 returns-in-Run-clause-heard g c = unbuilt_heard g.F.Folder.tells (g.F.Folder.told c.args.files.now) (g.F.Folder.heard c.args.files.now) _ _ _ refl refl c.args.command.now _ c.in-Run.is tt
 

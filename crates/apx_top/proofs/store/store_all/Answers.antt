@@ -1,8 +1,8 @@
 use Rattle.std.proofs.Common.{◌≡◌, ◌<◌, ◌+◌, arith, sym, ap, ◌∙◌, ◌++◌, ◌∷◌, [], refl, subst}
 use Rattle.std.specs.Prelude.{IsTrue}
 use Rattle.apx_pass.specs.Pass.{windows}
-use Rattle.apx_mean.specs.Passing.{Passing, dataflow_of}
-use Rattle.apx_top.proofs.Storing.{HoldsFirst, holds-at, holds-more, prefix-of, left-prefix, rows-next}
+use Rattle.apx_mean.specs.Passing.{Passing}
+use Rattle.apx_top.proofs.Storing.{flow_is, HoldsFirst, holds-at, holds-more, prefix-of, left-prefix, rows-next}
 use Rattle.apx_top.proofs.store.store_all.Goals as goal
 use Rattle.apx_top.proofs.store.store_all.Goals.{then-first-done+in_ok-commit, else-first-done}
 
@@ -10,7 +10,7 @@ pub loop-done-init : goal.loop-done-init
 loop-done-init g c = record {
   sound = c.requires.sound;
   last = omega (arith, c.last-first.ensures.last);
-  flow = ap (λ (p : Passing). p.flow) c.in_ok-pass.ensures;
+  flow = ap (λ (p : Passing). p.flow) c.in_ok-pass.ensures ∙ flow_is c.args.job.now c.dag.result.now c.inputs.result.now c.dag.ensures c.inputs.ensures;
   passed = ap (λ (p : Passing). p.passed) c.in_ok-pass.ensures;
   holds = λ t h. holds-at _ _ _ h (c.last-first.ensures.told t ∙ c.last-first.ensures.last);
   later = omega arith;
@@ -18,24 +18,24 @@ loop-done-init g c = record {
 
 pub returns-in_err-commit-clause-prefix : goal.returns-in_err-commit-clause-prefix
 returns-in_err-commit-clause-prefix g c = λ t p.
-    let flow = dataflow_of c.args.dag.now c.args.inputs.now in
+    let flow = c.args.job.now.flow in
     let at : g.K.Keeper.last c.loop-done.keeper ≡ c.loop-done.done = c.loop-done.invariant.last ∙ omega (arith, c.if-first-done.true) in
     let before = c.loop-done.invariant.holds t p in
     let rows = rows-next _ flow _ (g.K.Keeper.last c.loop-done.keeper) _ c.loop-done.invariant.flow (c.loop-done.invariant.passed ∙ sym at) c.in_ok-next.ensures.ok.1 in
-    let within : g.K.Keeper.last c.loop-done.keeper < windows flow = omega (arith, at, c.requires.windows, c.loop-done-test.true) in
+    let within : g.K.Keeper.last c.loop-done.keeper < windows flow = omega (arith, at, c.windows-windows.ensures.count, c.loop-done-test.true) in
     let after = holds-more flow _ (g.K.Keeper.stored c.loop-done.keeper ++ c.in_ok-next.rows ∷ []) _ _ before within rows refl in
     left-prefix flow _ _ _ _ (c.in_err-commit.ensures.stored t) (prefix-of flow _ _ before) (prefix-of flow _ _ after)
 
 pub loop-done-preserved : goal.loop-done-preserved
 loop-done-preserved g c =
-    let flow = dataflow_of c.args.dag.now c.args.inputs.now in
+    let flow = c.args.job.now.flow in
     let next = c.in_ok-next.ensures.ok.0 in
     let same_dataflow = ap (λ (p : Passing). p.flow) next ∙ c.loop-done.invariant.flow in
     let same_passed = ap (λ (p : Passing). p.passed) next ∙ ap (λ n. n + 1) c.loop-done.invariant.passed in
     elim c.if-first-done.branch [
       | then-first-done+in_ok-commit w ↦
           let at : g.K.Keeper.last c.loop-done.keeper ≡ c.loop-done.done = c.loop-done.invariant.last ∙ omega (arith, w.if-first-done.true) in
-          let within : g.K.Keeper.last c.loop-done.keeper < windows flow = omega (arith, at, c.requires.windows, c.loop-done-test.true) in
+          let within : g.K.Keeper.last c.loop-done.keeper < windows flow = omega (arith, at, c.windows-windows.ensures.count, c.loop-done-test.true) in
           record {
             sound = subst (λ k. IsTrue (g.K.Keeper.sound k)) (sym w.keeper-is) w.in_ok-commit.ensures.sound;
             last = ap g.K.Keeper.last w.keeper-is ∙ omega (arith, w.in_ok-commit.ensures.last, at, w.if-first-done.true);
