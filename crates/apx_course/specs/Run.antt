@@ -1,10 +1,13 @@
 -- The name of a run.
 use Rattle.std.specs.Prelude.{ℕ, Bool, false, []}
 use Rattle.apx_history.specs.Plan.{Plan}
+use Rattle.apx_pass.specs.Job.{Job}
 
 -- what was fixed as a run began
 pub record Run : Type 0 where
-  -- the plan of its job
+  -- its job
+  pub job : Job
+  -- the plan of the job, as its machine has it
   pub plan : Plan
   -- all its devices tell what they hold
   pub told : Bool
@@ -19,9 +22,18 @@ pub record Run : Type 0 where
   -- how many faults the maker of spools had counted
   pub spools : ℕ
 
+-- a job without operators
+abbrev pub no_job : Job
+no_job = record {
+  flow = record { nodes = []; inputs = [] };
+  script = [];
+  settings = record { base = 0; every = 0; block = 0; keep = 0 };
+}
+
 -- a run without operators
 abbrev pub no_run : Run
 no_run = record {
+  job = no_job;
   plan = record { windows = 0; every = 0; sink = 0; operators = []; lines = [] };
   told = false;
   stored = 0;
