@@ -1,0 +1,40 @@
+use Rattle.std.proofs.Common.{◌≡◌, None, Err, ap, ◌∙◌, refl}
+use Rattle.apx_cause.proofs.Causes.{Rose-from}
+use Rattle.apx_history.specs.State.{State}
+use Rattle.apx_history.specs.declared.Event.TheVariants.{Commit}
+use Rattle.apx_course.specs.declared.faults.CoreFault.TheVariants.{Memory, Vault}
+use Rattle.apx_stores.proofs.Wholes.{whole_vault, whole_vault_stop}
+use Rattle.apx_stores.proofs.Stopping.{stored_stays}
+use Rattle.apx_stores.proofs.stores.Stores.commit.Goals as goal
+
+pub drop_below-requires : goal.drop_below-requires
+drop_below-requires g c =
+    let none : c.self.inside.course.fault ≡ None = ap (λ s. s.course.fault) c.self.view_is ∙ c.in_ok-reserve.ensures.fault in
+    c.self.invariant.1.is_vault_sound none
+
+pub invariant_of-self : goal.invariant_of-self
+invariant_of-self g c =
+    let none : c.self.inside.course.fault ≡ None = ap (λ s. s.course.fault) c.self.view_is ∙ c.in_ok-reserve.ensures.fault in (
+      c.self.invariant.0,
+      whole_vault g.J.Naming.run _ _ _ _ _ _ _ _ _ c.self.invariant.1 _ _ _ _
+          (ap (λ (m : State). m.stored) c.add.ensures.machine ∙ stored_stays g.J.Naming.run.plan c.self.inside.course.machine c.args.worker (Commit c.args.to) refl)
+          c.add.ensures.fault none c.in-Ok.ensures.sound c.in-Ok.ensures.cause.later,
+    )
+
+pub invariant_of-self-in-Err-Failed : goal.invariant_of-self-in-Err-Failed
+invariant_of-self-in-Err-Failed g c =
+    let none : c.self.inside.course.fault ≡ None = ap (λ s. s.course.fault) c.self.view_is ∙ c.in_ok-reserve.ensures.fault in
+    let whole = c.self.invariant.1 in (
+      c.self.invariant.0,
+      whole_vault_stop g.J.Naming.run _ _ _ _ _ _ _ _ _ whole Vault _ _ _ _ none (ap (λ (m : State). m.stored) c.stop.ensures.machine) c.stop.ensures.fault
+          c.in-Err-Failed.ensures.cause.later
+          (Rose-from _ _ _ whole.vault_counts (c.in-Err-Failed.ensures.cause.rose (ap Err c.in-Err-Failed.field-0-is))),
+    )
+
+pub invariant_of-self-in-Err-Memory : goal.invariant_of-self-in-Err-Memory
+invariant_of-self-in-Err-Memory g c =
+    let none : c.self.inside.course.fault ≡ None = ap (λ s. s.course.fault) c.self.view_is ∙ c.in_ok-reserve.ensures.fault in (
+      c.self.invariant.0,
+      whole_vault_stop g.J.Naming.run _ _ _ _ _ _ _ _ _ c.self.invariant.1 Memory _ _ _ _ none (ap (λ (m : State). m.stored) c.stop-in-Err-Memory.ensures.machine) c.stop-in-Err-Memory.ensures.fault
+          c.in-Err-Memory.ensures.cause.later tt,
+    )

@@ -1,0 +1,8 @@
+use Rattle.std.proofs.Common.{sym, subst}
+use Rattle.apx_history.specs.Plan.{Plan}
+use Rattle.apx_history.specs.Kept.{IsPlan}
+use Rattle.apx_history.proofs.Instances.{small_is}
+use Rattle.apx_stores.proofs.tests.a_run_ends.Goals as goal
+
+pub drive-requires-clause-is : goal.drive-requires-clause-is
+drive-requires-clause-is g c = subst (λ (p : Plan). IsPlan p) (sym c.in_ok-chain.ensures) small_is
