@@ -11,3 +11,5 @@ mod operator;
 mod parts;
 mod run;
 mod sent;
+#[cfg(test)]
+mod tests;
