@@ -1,0 +1,11 @@
+pub mod Puts
+pub mod Blocks
+pub mod Fitting
+pub mod Mapping
+pub mod Copies
+pub mod Begun
+pub mod Feeding
+pub mod Lengths
+pub mod Causes
+pub mod Renewing
+pub mod Recovering
