@@ -22,6 +22,12 @@ use apx_machine::{Journal, Machine};
 use std::marker::Model;
 
 /// A run with its devices. `J` names the run.
+///
+/// ```text
+/// let mut stores = Stores::new(Devices { keeper, vault, spools }, course);
+/// stores.reserve(0, event)?;
+/// stores.add(0, event);
+/// ```
 #[derive(Drop)]
 pub struct Stores<K: Keeper + Drop, V: Vault + Drop, P: Spools + Drop, J: Naming> {
     /// The sink's store.
