@@ -1,10 +1,6 @@
 -- How the store goes on with the windows of a pass.
 use Rattle.std.proofs.Common.{◌≡◌, ℕ, suc, zero, ◌+◌, ◌<◌, ◌≤◌, List, [], ◌∷◌, ◌++◌, length, refl, sym, ap, ◌∙◌, subst, arith, inl, inr, length-append, add-one, Err}
 use Rattle.apx_tuple.specs.declared.tuple.Tuple.{Tuple}
-use Rattle.apx_pass.specs.Graph.{Node}
-use Rattle.apx_pass.specs.Groups.{Input}
-use Rattle.apx_pass.specs.Job.{Job}
-use Rattle.apx_mean.specs.Passing.{dataflow_of}
 use Rattle.apx_pass.specs.Pass.{Dataflow, windows, mean, mean_up_to, rows_at, sink_of}
 use Rattle.apx_load.specs.declared.stop.Stop.{Stop}
 use Rattle.apx_load.specs.declared.stop.Stop.TheVariants.{Refused, CannotRead, StoreFailed, OutputFailed, Memory, Large}
@@ -63,7 +59,3 @@ module _ (flow : Dataflow) where
 -- the rows that a pass gives next
 pub rows-next : (pj flow : Dataflow) (passed last : ℕ) (rows : List Tuple) → pj ≡ flow → passed ≡ last → rows ≡ rows_at pj (suc passed) (sink_of pj.nodes) → rows ≡ rows_at flow (suc last) (sink_of flow.nodes)
 rows-next pj flow passed last rows j p e = e ∙ (λ i. rows_at (j i) (suc (p i)) (sink_of (j i).nodes))
-
--- the dataflow of a job, by its parts
-pub flow_is : (job : Job) (nodes : List Node) (inputs : List Input) → nodes ≡ job.flow.nodes → inputs ≡ job.flow.inputs → dataflow_of nodes inputs ≡ job.flow
-flow_is job nodes inputs p q = λ i. record { nodes = p i; inputs = q i }

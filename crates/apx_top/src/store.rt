@@ -6,10 +6,10 @@ ghost use Rattle.apx_load.specs.Stops.{IsCaused, no_causes};
 ghost use Rattle.apx_pass.specs.Large.{IsLargeDataflow};
 ghost use Rattle.apx_top.specs.Store.{HoldsPrefix, storing_causes, LeftByCommit};
 
+use apx_blocks::BlockRun;
 use apx_device::Keeper;
 use apx_job::Job;
 use apx_load::Stop;
-use apx_mean::OnePass;
 use apx_tuple::Bag;
 use std::alloc::Global;
 
@@ -27,18 +27,17 @@ fn commit<K: Keeper>(keeper: &mut K, window: u32, rows: &Bag) -> Result<(), Stop
     Ok(keeper.commit(window, rows.tuples())?)
 }
 
-/// The next window of a pass.
-fn next_window<'a>(alloc: Global, pass: OnePass<'a>) -> Result<(OnePass<'a>, Bag), Stop>
-    requires passed { pass.passed < 20000 }
-    requires within { pass.passed < windows pass.flow }
-    ensures ok { IfOk result (λ r. (r.0 ≡ record { flow = pass.entry.flow; passed = pass.entry.passed + 1 })
-        × (r.1 ≡ rows_at pass.entry.flow (suc pass.entry.passed) (sink_of pass.entry.flow.nodes))) }
-    ensures stop { IfErr result (IsCaused (record no_causes { large = IsLargeDataflow pass.entry.flow })) }
+/// The next window of a run.
+fn next_window<'a>(alloc: Global, run: BlockRun<'a>) -> Result<(BlockRun<'a>, Bag), Stop>
+    requires { run.passed < windows run.job.flow }
+    ensures ok { IfOk result (λ r. (r.0 ≡ record { job = run.entry.job; passed = run.entry.passed + 1 })
+        × (r.1 ≡ rows_at run.entry.job.flow (suc run.entry.passed) (sink_of run.entry.job.flow.nodes))) }
+    ensures stop { IfErr result (IsCaused (record no_causes { large = IsLargeDataflow run.entry.job.flow })) }
 {
-    Ok(pass.next(alloc)?)
+    Ok(run.next(alloc)?)
 }
 
-/// Goes over a job once and stores each window that the keeper hasn't yet.
+/// Runs a job by its partitions and stores each window that the keeper hasn't yet.
 ///
 /// Where the keeper began with the rows of the first windows, it has those of some first windows
 /// whatever comes, and after an Ok those of all.
@@ -53,10 +52,10 @@ pub(crate) fn store_all<K: Keeper>(alloc: Global, job: &Job, keeper: &mut K) -> 
 {
     let first = keeper.last();
     let windows = job.windows();
-    let mut pass = OnePass::new(alloc, job.dag(), job.inputs())?;
+    let mut run = BlockRun::new(alloc, job)?;
     for done in 0..windows {
-        let (next, rows) = next_window(alloc, pass)?;
-        pass = next;
+        let (next, rows) = next_window(alloc, run)?;
+        run = next;
         if first <= done {
             commit(keeper, done + 1, &rows)?;
         }

@@ -242,10 +242,14 @@ fn a_sum_wraps(rt: HostRuntime) -> Result<(), Fail> {
 #[test]
 fn the_top_rows_are_those_of_the_least_keys(rt: HostRuntime) -> Result<(), Fail> {
     let read = r#""class":"pairs","properties":{"file":"in.txt","perWindow":4}"#;
-    let step = r#""class":"top","properties":{"k":2}"#;
-    let left = pipe(rt.alloc(), read, step, "b\t5\na\t5\nc\t5\nd\t1\n")?;
     let text = "window 1 4294967296000000000 2\na\t5\nb\t5\n";
-    expect(&rt, &left, 0, text, "", "a=5 b=5 |");
+    for step in [
+        r#""class":"top","properties":{"k":2}"#,
+        r#""class":"top","properties":{"k":2},"attributes":{"PARTITIONS":3}"#,
+    ] {
+        let left = pipe(rt.alloc(), read, step, "b\t5\na\t5\nc\t5\nd\t1\n")?;
+        expect(&rt, &left, 0, text, "", "a=5 b=5 |");
+    }
     Ok(())
 }
 
@@ -272,11 +276,15 @@ fn a_tumbling_sum_is_told_at_every_third_window(rt: HostRuntime) -> Result<(), F
 
 #[test]
 fn windows_are_gathered(rt: HostRuntime) -> Result<(), Fail> {
-    let sum = r#""class":"sum","attributes":{"APPLICATION_WINDOW_COUNT":2}"#;
-    let left = pipe(rt.alloc(), SINGLE_PAIRS, sum, FOUR_WINDOWS)?;
     let text =
         "window 1 4294967296000000000 0\nwindow 2 4294967296000000001 1\nk\t2\nwindow 3 4294967296000000002 0\nwindow 4 4294967296000000003 1\nk\t4\n";
-    expect(&rt, &left, 0, text, "", "|k=2 ||k=4 |");
+    for sum in [
+        r#""class":"sum","attributes":{"APPLICATION_WINDOW_COUNT":2}"#,
+        r#""class":"sum","attributes":{"APPLICATION_WINDOW_COUNT":2,"PARTITIONS":2}"#,
+    ] {
+        let left = pipe(rt.alloc(), SINGLE_PAIRS, sum, FOUR_WINDOWS)?;
+        expect(&rt, &left, 0, text, "", "|k=2 ||k=4 |");
+    }
     let tumble =
         r#""class":"tumble","properties":{"every":2},"attributes":{"APPLICATION_WINDOW_COUNT":2}"#;
     expect_stored(&rt, rt.alloc(), tumble, "|||k=4 |")?;
