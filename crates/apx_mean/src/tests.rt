@@ -66,21 +66,33 @@ fn a_pass_gives_the_sinks_rows_window_by_window(rt: HostRuntime) -> Result<(), F
     Ok(())
 }
 
-#[test]
-fn a_mean_numbers_the_windows_from_one(rt: HostRuntime) -> Result<(), Fail> {
-    let alloc = rt.alloc();
+/// The job of these lines, each a window, without a script.
+fn counted(alloc: Global, lines: &[u8]) -> Result<Job, Fail> {
     let dag = Dag::of(alloc, read_app(alloc, COUNTED.as_bytes())?)?;
     let mut inputs = Vec::new(alloc);
-    inputs.push(windows(alloc, InputKind::Lines, 1, b"b\na\nb\n")?)?;
+    inputs.push(windows(alloc, InputKind::Lines, 1, lines)?)?;
     if inputs.len() != dag.inputs_before(dag.len()) {
-        return Err("one input")?;
+        return Err("another number of inputs")?;
     }
-    let job = Job::of(alloc, dag, inputs, Script::new(alloc), Settings::default())?;
+    let script = Script::new(alloc);
+    Ok(Job::of(alloc, dag, inputs, script, Settings::default())?)
+}
+
+/// The rows of all windows of a job as text, each behind the window's number.
+fn mean_shown(alloc: Global, job: &Job) -> Result<String, Fail> {
     let mut text = String::new(alloc);
-    for (window, rows) in mean(alloc, &job)? {
+    for (window, rows) in mean(alloc, job)? {
         let rows = shown(alloc, &rows)?;
         text.push_str(format!(in alloc; "{window}: {rows}")?.as_str())?;
     }
+    Ok(text)
+}
+
+#[test]
+fn a_mean_numbers_the_windows_from_one(rt: HostRuntime) -> Result<(), Fail> {
+    let alloc = rt.alloc();
+    let job = counted(alloc, b"b\na\nb\n")?;
+    let text = mean_shown(alloc, &job)?;
     assert_eq!(rt; text.as_str(), "1: 2: a=1 b=1 3: ");
     Ok(())
 }
