@@ -1,6 +1,6 @@
 -- Words and files are read in one way: what is accepted is one, what is refused first is one, and words and files have
 -- one of both and never both.
-use Rattle.std.proofs.Common.{◌≡◌, ℕ, zero, suc, ◌<◌, ◌≤◌, ◌⊎◌, inl, inr, List, [], ◌∷◌, length, filter_map, Option, Some, None, Result, Ok, Err, arith, refl, ap, sym, subst, ◌∙◌}
+use Rattle.std.proofs.Common.{◌≡◌, ℕ, zero, suc, Bool, true, false, ◌<◌, ◌≤◌, ◌⊎◌, inl, inr, List, [], ◌∷◌, length, filter_map, Option, Some, None, Result, Ok, Err, arith, refl, ap, sym, subst, ◌∙◌}
 use Rattle.apx_device.specs.Folder.{IsPast}
 use Rattle.apx_json.specs.Texts.{Application}
 use Rattle.apx_json.specs.Reading.{Reads}
@@ -30,7 +30,7 @@ use Rattle.serde_json.specs.Data.{Data}
 use Rattle.apx_json.specs.Reading.{IsJson}
 use Rattle.apx_json.specs.Shape.{application_of}
 use Rattle.apx_dag.specs.Order.{Reaches}
-use Rattle.apx_load.specs.Jobs.{IsLineOfText, IsScript, IsScriptRefusal, IsLineOfJob, IsScripted, IsScriptedRefusal, IsJob, IsJobRefusal, IsNotRun, IsRunJob, IsRunJobRefusal}
+use Rattle.apx_load.specs.Jobs.{IsLineOfText, IsScript, IsScriptRefusal, IsLineOfJob, IsScripted, IsScriptedRefusal, IsJob, IsJobRefusal, kills, IsNotRun, IsRunJob, IsRunJobRefusal}
 use Rattle.apx_load.specs.First.{IsAcceptedBy, IsRefusedBy, AreAccepted, IsRefusal, of_words, of_files}
 use Rattle.apx_load.specs.Refusals.{by_files, IsAppText, IsTextRefusal, IsFileRefusal, IsApplication, IsApplicationRefusal, cause_view, IsInputOf, IsLineRefusal, IsInputRefusal, AreRead, AreInputs, IsInputsRefusal, IsAcceptedRun, IsRunRefusal}
 
@@ -422,12 +422,16 @@ not_run_refused job NotBuilt NotBuilt p q = refl
 not_run_refused job NotBuilt _ p q = absurd q
 not_run_refused job _ s p q = absurd p
 
-not_run_apart : (job same : Job) (r : Refusal) → (job.script ≡ []) × (same ≡ job) → IsNotRun job r → ⊥
-not_run_apart job same NotBuilt p q = q p.0
+not_run_apart : (job same : Job) (r : Refusal) → (kills job ≡ false) × (same ≡ job) → IsNotRun job r → ⊥
+not_run_apart job same NotBuilt p q = let a = p.0 in let b = q in cc
 not_run_apart job same _ p q = absurd q
 
-can_run_decided : (job : Job) → IsDecided Job (λ same. (job.script ≡ []) × (same ≡ job)) (IsNotRun job)
-can_run_decided job = record { accepted = λ x y p q. p.1 ∙ sym q.1; refused = not_run_refused job; apart = not_run_apart job; total = λ none unrefused. unrefused NotBuilt (λ e. none job (e, refl)) }
+can_run_total : (job : Job) (killed : Bool) → kills job ≡ killed → ((same : Job) → (kills job ≡ false) × (same ≡ job) → ⊥) → ((r : Refusal) → IsNotRun job r → ⊥) → ⊥
+can_run_total job true is none unrefused = unrefused NotBuilt is
+can_run_total job false is none unrefused = none job (is, refl)
+
+can_run_decided : (job : Job) → IsDecided Job (λ same. (kills job ≡ false) × (same ≡ job)) (IsNotRun job)
+can_run_decided job = record { accepted = λ x y p q. p.1 ∙ sym q.1; refused = not_run_refused job; apart = not_run_apart job; total = can_run_total job (kills job) refl }
 
 -- ---- words and files
 
@@ -466,8 +470,8 @@ module _ (told : List ℕ → Option (List ℕ)) where
 
   run_job_decided : (name : List ℕ) (script : Option (List ℕ)) (settings : Settings) → IsDecided Job (IsRunJob (by_files told) name script settings) (IsRunJobRefusal (by_files told) name script settings)
   run_job_decided name script settings =
-      let both : IsDecided Job (λ same. (job : Job) × IsJob (by_files told) name script settings job × ((job.script ≡ []) × (same ≡ job))) (IsRunJobRefusal (by_files told) name script settings) =
-      then Job Job (IsJob (by_files told) name script settings) (IsJobRefusal (by_files told) name script settings) (λ job same. (job.script ≡ []) × (same ≡ job)) IsNotRun (job_decided name script settings) can_run_decided in
+      let both : IsDecided Job (λ same. (job : Job) × IsJob (by_files told) name script settings job × ((kills job ≡ false) × (same ≡ job))) (IsRunJobRefusal (by_files told) name script settings) =
+      then Job Job (IsJob (by_files told) name script settings) (IsJobRefusal (by_files told) name script settings) (λ job same. (kills job ≡ false) × (same ≡ job)) IsNotRun (job_decided name script settings) can_run_decided in
       record {
         accepted = λ x y p q. both.accepted x y (x, p.accepted, (p.run, refl)) (y, q.accepted, (q.run, refl));
         refused = both.refused;

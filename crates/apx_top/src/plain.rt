@@ -105,8 +105,8 @@ fn act<F: Folder, K: Keeper, O: Out>(
 
 /// Does what the words ask for: `check APP` judges an application, `plan APP` prints its operators and their
 /// partitions, `mean APP` prints the rows of each window of one pass over it and its inputs, and `sim APP` with its
-/// options runs it on one thread. The other commands aren't built yet, and no more is a run whose script commands
-/// something.
+/// options runs it on one thread. The other commands aren't built yet, and no more is a run whose script kills a
+/// partition.
 ///
 /// A run stores each window's rows in one commit and then prints them all, a line for each row. Its
 /// status is 0, or else that of the first thing that stopped it: 1 for words that are no command, or that

@@ -3,7 +3,9 @@ ghost use Rattle.std.specs.Prelude.{◌≡◌, ◌≤◌, option_map, IsTrue, Ma
 ghost use Rattle.apx_cause.specs.Cause.{Rose};
 ghost use Rattle.apx_script.specs.Settings.{IsSettings};
 ghost use Rattle.apx_load.specs.Hearing.{HasHeard};
-ghost use Rattle.apx_load.specs.Jobs.{IsRunJob, IsRunJobRefusal};
+ghost use Rattle.std.specs.List.{list_any};
+ghost use Rattle.apx_script.specs.Views.{act_view};
+ghost use Rattle.apx_load.specs.Jobs.{is_kill, IsRunJob, IsRunJobRefusal};
 ghost use Rattle.apx_load.specs.Refusals.{by_answers};
 ghost use Rattle.apx_load.specs.Stops.{IsCaused, reading_causes};
 ghost use Rattle.apx_top.specs.Changes.{call_of, store_change, output_change};
@@ -15,7 +17,7 @@ use apx_device::{Folder, Keeper, Out};
 use apx_job::Job;
 use apx_json::Name;
 use apx_load::{Refusal, Stop, job};
-use apx_script::Settings;
+use apx_script::{Act, Line, Settings};
 use std::alloc::Global;
 
 /// Reads an application, its inputs and its script, stores each window, and then prints them.
@@ -41,7 +43,7 @@ pub(crate) fn sim<F: Folder, K: Keeper, O: Out>(
     pass(alloc, &job, keeper, out)
 }
 
-/// The job of these files and settings, where its script commands nothing.
+/// The job of these files and settings, where its script fails no partition.
 fn runnable<F: Folder>(
     alloc: Global,
     files: &mut F,
@@ -60,11 +62,24 @@ fn runnable<F: Folder>(
         (Rose (F.faults files.old) (F.faults files.new))))) }
 {
     let job = job(alloc, files, name, script, settings)?;
-    if job.lines().is_empty() {
-        Ok(job)
-    } else {
+    if kills(job.lines()) {
         Err(Stop::Refused(Refusal::NotBuilt))
+    } else {
+        Ok(job)
     }
+}
+
+fn is_kill(act: &Act) -> bool
+    ensures { result ≡ is_kill (act_view act.now) }
+{
+    matches!(act, Act::Kill { .. })
+}
+
+/// Whether one of the commands fails a partition.
+fn kills(lines: &[Line]) -> bool
+    ensures { result ≡ list_any (λ line. is_kill line.act) lines.now }
+{
+    lines.iter().any(|line| is_kill(&line.act))
 }
 
 /// Stores the windows of a job, and then prints them.

@@ -669,6 +669,8 @@ fn a_script_is_judged_behind_the_inputs(rt: HostRuntime) -> Result<(), Fail> {
     let alloc = rt.alloc();
     let left = scripted(alloc, "# nothing is commanded\n\n")?;
     expect(&rt, &left, 0, COUNTED_TEXT, "", "a=1 b=1 |a=2 |");
+    let left = scripted(alloc, "repartition 2 3 tally\n")?;
+    expect(&rt, &left, 0, COUNTED_TEXT, "", "a=1 b=1 |a=2 |");
     for (script, status, err) in [
         ("kill now 1 0 out\n", 7, "apex: script line 1 refused: S1\n"),
         (
@@ -691,7 +693,7 @@ fn a_script_is_judged_behind_the_inputs(rt: HostRuntime) -> Result<(), Fail> {
             7,
             "apex: script line 1 refused: S5\n",
         ),
-        // What a script commands isn't built yet.
+        // Kills aren't built yet.
         ("kill done 1 0 tally\n", 1, "apex: not a command\n"),
     ] {
         expect_refused(&rt, &scripted(alloc, script)?, status, err);
