@@ -4,3 +4,5 @@ pub mod Lines
 pub mod Journals
 pub mod Verdicts
 pub mod Judging
+pub mod Deciding
+pub mod Ending

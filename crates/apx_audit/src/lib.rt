@@ -7,11 +7,13 @@
 
 mod audit;
 mod audited;
+mod laws;
 mod read;
 mod write;
 
 pub use audit::audit_journal;
 pub use audited::{AuditEnd, AuditRefusal, Audited};
+pub use laws::{ended_journals_are_whole, texts_are_decided};
 pub use write::journal_text;
 
 #[cfg(test)]
