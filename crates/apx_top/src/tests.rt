@@ -292,6 +292,13 @@ fn windows_are_gathered(rt: HostRuntime) -> Result<(), Fail> {
     expect_stored(&rt, rt.alloc(), cut_short, "||k=3 ||")
 }
 
+#[test]
+fn gathered_windows_are_tumbled_by_two_partitions(rt: HostRuntime) -> Result<(), Fail> {
+    let tumble =
+        r#""class":"tumble","properties":{"every":2},"attributes":{"APPLICATION_WINDOW_COUNT":2,"PARTITIONS":2}"#;
+    expect_stored(&rt, rt.alloc(), tumble, "|||k=4 |")
+}
+
 /// What a run leaves of two inputs, an operator of this class with two ports, and the store. The right
 /// input ends a window before the left one.
 fn pair_up(alloc: Global, class: &str) -> Result<Left, Fail> {
