@@ -2,6 +2,7 @@
 #![tactic(auto)]
 
 mod body;
+mod upgrade;
 mod vault_log;
 
 pub use vault_log::VaultLog;

@@ -13,6 +13,14 @@ const ONE_OF_EACH: [u8; 29] = [
     1, 0, 0, 0, 13, 1, 0, 2, 0, 0, 0, 0, 1, 0, 0, 0, 4, 120, 1, 0, 0, 0, 5, 2, 0, 0, 0, 4, 0,
 ];
 
+// The state `a` 2 in the older spelling of a checkpoint.
+const OLDER: [u8; 15] = [0, 0, 0, 1, 0, 1, 97, 0, 0, 0, 0, 0, 0, 0, 2];
+
+// It in the newer one, with nothing on its ports.
+const NEWER: [u8; 25] = [
+    255, 2, 0, 0, 0, 1, 0, 1, 97, 0, 0, 0, 0, 0, 0, 0, 2, 0, 0, 0, 0, 0, 0, 0, 0,
+];
+
 // The id of a state after a window.
 fn after(window: u32) -> SaveId {
     SaveId {
@@ -52,6 +60,32 @@ fn a_put_and_a_drop_are_records(rt: HostRuntime) -> Result<(), Fail> {
     assert_eq!(rt; log.faults(), 0);
     let disk = log.close();
     assert_eq!(rt; disk.bytes(), ONE_OF_EACH.as_slice());
+    Ok(())
+}
+
+#[test]
+fn an_upgrade_leaves_what_spells_no_state(rt: HostRuntime) -> Result<(), Fail> {
+    let alloc = rt.alloc();
+    let mut log = opened(alloc, &[])??;
+    if log.sound() {
+        log.put(after(4), &OLDER)?;
+    }
+    if log.sound() {
+        log.put(after(5), &[7])?;
+    }
+    if log.sound() {
+        log.put(after(6), &OLDER)?;
+    }
+    if log.sound() {
+        assert_eq!(rt; log.upgrade()?, 2);
+    }
+    if log.sound() {
+        assert_eq!(rt; log.upgrade()?, 0);
+    }
+    if log.sound() {
+        assert_eq!(rt; log.get(alloc, after(4))?.as_slice(), NEWER.as_slice());
+        assert_eq!(rt; log.get(alloc, after(5))?.as_slice(), [7].as_slice());
+    }
     Ok(())
 }
 

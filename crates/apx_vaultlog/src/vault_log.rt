@@ -28,11 +28,11 @@ use std::collections::BTreeMap;
 #[derive(Drop)]
 pub struct VaultLog<D: Disk + Drop> {
     /// The records, one for each change.
-    records: Records<D>,
+    pub(crate) records: Records<D>,
     /// Where the entries lie.
-    alloc: Global,
+    pub(crate) alloc: Global,
     /// The bytes under each id.
-    entries: BTreeMap<SaveId, Vec<u8>>,
+    pub(crate) entries: BTreeMap<SaveId, Vec<u8>>,
     /// The ids ascend.
     ghost ordered: { IsStrictlySortedBy save_order (keys entries) } by { Prim.hlevel props },
     /// As long as it is sound, the file spells the entries.

@@ -1,5 +1,4 @@
-use Rattle.std.proofs.Common.{◌≡◌, ◌++◌, List, ℕ, Some, rules, ap, ◌∙◌}
-use Rattle.apx_device.specs.Vault.{Entry, with_entry}
+use Rattle.std.proofs.Common.{◌≡◌, ◌++◌, List, ℕ, rules, ap, ◌∙◌}
 use Rattle.apx_device.specs.declared.vault.SaveId.{SaveId}
 use Rattle.apx_vaultlog.specs.Changes.{put_front, changed}
 use Rattle.apx_vaultlog.proofs.Bodies.{put_back}

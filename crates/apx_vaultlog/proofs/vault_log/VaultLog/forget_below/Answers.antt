@@ -1,4 +1,4 @@
-use Rattle.std.proofs.Common.{◌≡◌, List, ℕ, Ok, sym, ap, ◌∙◌}
+use Rattle.std.proofs.Common.{List, ℕ, Ok, sym, ap, ◌∙◌}
 use Rattle.apx_device.specs.Vault.{entries_from}
 use Rattle.apx_device.specs.MemoryVault.{entries_in}
 use Rattle.apx_vaultlog.specs.Changes.{changed}

@@ -1,8 +1,8 @@
-use Rattle.std.proofs.Common.{◌≡◌, ◌⊎◌, inl, List, Ok, sym, ap, ◌∙◌}
+use Rattle.std.proofs.Common.{inl, Ok, sym, ap, ◌∙◌}
 use Rattle.std.specs.BTreeMap.{is_at}
 use Rattle.std.specs.Map.{remove_entry}
-use Rattle.apx_device.specs.Vault.{Entry, save_order, with_entry}
-use Rattle.apx_device.specs.MemoryVault.{Kept, entries_in}
+use Rattle.apx_device.specs.Vault.{save_order, with_entry}
+use Rattle.apx_device.specs.MemoryVault.{entries_in}
 use Rattle.apx_device.proofs.Saves.{entries-insert}
 use Rattle.apx_vaultlog.specs.Changes.{entries_of_log}
 use Rattle.apx_vaultlog.proofs.Pushed.{vault_push, change_crash}

@@ -1,4 +1,4 @@
-use Rattle.std.proofs.Common.{◌≡◌, Ok, sym, ap, ◌∙◌}
+use Rattle.std.proofs.Common.{Ok, sym, ap, ◌∙◌}
 use Rattle.apx_device.specs.Vault.{with_entry}
 use Rattle.apx_device.specs.MemoryVault.{entries_in}
 use Rattle.apx_vaultlog.proofs.Pushed.{vault_push, change_crash}
