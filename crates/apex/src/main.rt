@@ -1,7 +1,7 @@
 //! The program `apex`: its words, the system's files and its standard streams, handed to the engine.
 #![tactic(auto)]
 
-ghost use Rattle.std.specs.Prelude.{◌≡◌, ◌<◌, ◌↔◌, None, Err, [], IsTrue, IsOk, IsErr, IfOk, map, string_bytes};
+ghost use Rattle.std.specs.Prelude.{◌≡◌, ◌<◌, ◌↔◌, ◌⊎◌, None, Err, [], IsTrue, IsOk, IsErr, IfOk, map, string_bytes};
 ghost use Rattle.apx_cause.specs.Cause.{Rose};
 ghost use Rattle.apx_load.specs.declared.refusal.Refusal.{Refusal};
 ghost use Rattle.apx_load.specs.declared.refusal.Refusal.TheVariants.{NotACommand};
@@ -10,6 +10,7 @@ ghost use Rattle.apx_load.specs.Hearing.{HasHeard};
 ghost use Rattle.apx_cmd.specs.Commands.{command_of};
 ghost use Rattle.apx_load.specs.First.{AreAccepted, IsRefusal};
 ghost use Rattle.apx_load.specs.Refusals.{by_files};
+ghost use Rattle.apx_top.specs.Audits.{AnswersAudits};
 ghost use Rattle.apx_top.specs.Plain.{HasRefused, IsLargeRun, IsComplete, status_after};
 ghost use Rattle.apex.specs.Performed.{HasPerformed};
 
@@ -96,6 +97,11 @@ fn perform<F: Folder, W: Write + Drop, E: Out>(
     ensures complete { IsTrue F.tells → AreAccepted (by_files (F.told files.old)) (map string_bytes words.now) →
         (Rose (F.faults files.old) (F.faults files.new) → ⊥) → result.faults ≡ 0 →
         IsComplete (IsLargeRun (by_files (F.told files.old)) (map string_bytes words.now)) result.end }
+
+    // Of files that the folder tells, an audit is done exactly for a legal journal, and refuses exactly the first line that
+    // is refused, unless the folder or standard output fails or memory runs out.
+    ensures audit { IsTrue F.tells → AnswersAudits (F.told files.old) (map string_bytes words.now)
+        (Rose (F.faults files.old) (F.faults files.new) ⊎ (0 < result.faults)) result.end }
 
     // The status is that of the end; a good end has 0 exactly where all output was written, and else 12.
     ensures done { (result.status ≡ 0) ↔ (IsOk result.end × (result.faults ≡ 0)) }

@@ -1,5 +1,5 @@
 -- What several calls have heard of a folder.
-use Rattle.std.proofs.Common.{◌≡◌, ℕ, List, [], ◌++◌, Bool, IsTrue, Option, sym, subst, append_assoc}
+use Rattle.std.proofs.Common.{◌≡◌, ℕ, List, [], ◌++◌, Bool, Option, sym, subst, append_assoc}
 use Rattle.std.proofs.lemmas.List.{append-nil}
 use Rattle.apx_device.specs.Folder.{Answer, AreTold}
 use Rattle.apx_device.proofs.Hearing.{AreTold-append}

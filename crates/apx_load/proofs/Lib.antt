@@ -1,3 +1,4 @@
+pub mod Auditing
 pub mod Heard
 mod Loading
 pub mod Readings

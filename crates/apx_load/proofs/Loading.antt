@@ -1,5 +1,5 @@
 -- What the inputs of the operators before one say of all.
-use Rattle.std.proofs.Common.{◌≡◌, ℕ, zero, suc, ◌+◌, ◌<◌, inl, inr, Bool, false, IsTrue, List, [], ◌∷◌, ◌++◌, length, Option, Some, None, filter_map, take, get_or, add-one, arith, ap, sym, ◌∙◌, refl, subst, ◌≤◌, is_some, append-nil, length-append}
+use Rattle.std.proofs.Common.{◌≡◌, ℕ, zero, suc, ◌+◌, ◌<◌, inl, inr, Bool, false, List, [], ◌∷◌, ◌++◌, length, Option, Some, None, filter_map, take, get_or, add-one, arith, ap, sym, ◌∙◌, refl, subst, ◌≤◌, is_some, append-nil, length-append}
 use Rattle.std.specs.Prelude.{⊤}
 use Rattle.apx_device.specs.Folder.{Answer}
 use Rattle.apx_pass.specs.Graph as graph

@@ -1,21 +1,23 @@
 -- What is accepted and refused by one reading is so by another that has all of its answers.
-use Rattle.std.proofs.Common.{◌≡◌, ℕ, ◌⊎◌, inl, inr, List, [], ◌∷◌, ◌++◌, Option, Some, None}
-use Rattle.std.specs.Prelude.{Result, Ok, Err}
+use Rattle.std.proofs.Common.{ℕ, inl, inr, List, [], ◌∷◌, ◌++◌, Option, Some, None}
+use Rattle.std.specs.Prelude.{Result}
 use Rattle.apx_device.specs.declared.folder.ReadRefusal.{ReadRefusal}
 use Rattle.apx_device.specs.Folder.{Answer, AreTold}
 use Rattle.apx_device.proofs.Hearing.{Gave-first, Gave-second, Gave-told}
+use Rattle.apx_history.specs.declared.Entry.{Entry}
 use Rattle.apx_pass.specs.Graph.{Role, Input, Inner, Sink, Node}
 use Rattle.apx_pass.specs.Groups as groups
 use Rattle.apx_pass.specs.Pass.{Dataflow}
 use Rattle.apx_pass.specs.Script.{Line}
 use Rattle.apx_script.specs.declared.settings.Settings.{Settings}
 use Rattle.apx_cmd.specs.declared.commands.Command.{Command}
-use Rattle.apx_cmd.specs.declared.commands.Command.TheVariants.{Check, Plan, Mean, Sim}
+use Rattle.apx_cmd.specs.declared.commands.Command.TheVariants.{Check, Plan, Mean, Sim, Audit}
 use Rattle.apx_pass.specs.Job.{Job}
 use Rattle.apx_load.specs.declared.refusal.Refusal.{Refusal}
 use Rattle.apx_load.specs.declared.refusal.Refusal.TheVariants.{NoFile, FileTooLong}
 use Rattle.apx_load.specs.Refusals.{Reading, by_files, by_answers, IsFileRefusal, IsApplication, IsApplicationRefusal, IsInputOf, IsInputRefusal, AreRead, AreInputs, IsInputsRefusal, IsAcceptedRun, IsRunRefusal}
 use Rattle.apx_load.specs.Jobs.{IsScript, IsScriptRefusal, IsScripted, IsScriptedRefusal, IsJob, IsJobRefusal, IsRunJob, IsRunJobRefusal}
+use Rattle.apx_load.specs.Audits.{IsLegalFile, IsJournalRefusal, IsAudited, IsLegal, IsAuditRefusal}
 use Rattle.apx_load.specs.First.{IsAcceptedBy, IsRefusedBy, AreAccepted, IsRefusal, of_words, of_files}
 
 -- each answer of the one reading is one of the other
@@ -113,11 +115,30 @@ module _ (R S : Reading) (of : IsOf R S) where
   of-run-job-refusal name script settings r (inl own) = inl (of-job-refusal name script settings r own)
   of-run-job-refusal name script settings r (inr job) = inr (job.0, of-job name script settings job.0 job.1, job.2)
 
+  pub of-legal-file : (name : List ℕ) (job : Job) (es : List Entry) → IsLegalFile R name job es → IsLegalFile S name job es
+  of-legal-file name job es is = record { text = is.text; read = of name _ _ is.read; legal = is.legal }
+
+  pub of-journal-refusal : (name : List ℕ) (job : Job) (r : Refusal) → IsJournalRefusal R name job r → IsJournalRefusal S name job r
+  of-journal-refusal name job r (inl file) = inl (file_refusal name _ r file)
+  of-journal-refusal name job r (inr text) = inr (text.0, of name _ _ text.1, text.2)
+
+  pub of-audited : (app journal : List ℕ) (script : Option (List ℕ)) (settings : Settings) (text : List ℕ) → IsAudited R app journal script settings text → IsAudited S app journal script settings text
+  of-audited app journal script settings text is =
+      (is.0, of-job app script settings is.0 is.1, record { read = of journal _ _ is.2.read; unrefused = is.2.unrefused })
+
+  pub of-legal : (app journal : List ℕ) (script : Option (List ℕ)) (settings : Settings) (es : List Entry) → IsLegal R app journal script settings es → IsLegal S app journal script settings es
+  of-legal app journal script settings es is = (is.0, of-job app script settings is.0 is.1, of-legal-file journal is.0 es is.2)
+
+  pub of-audit-refusal : (app journal : List ℕ) (script : Option (List ℕ)) (settings : Settings) (r : Refusal) → IsAuditRefusal R app journal script settings r → IsAuditRefusal S app journal script settings r
+  of-audit-refusal app journal script settings r (inl own) = inl (of-job-refusal app script settings r own)
+  of-audit-refusal app journal script settings r (inr job) = inr (job.0, of-job app script settings job.0 job.1, of-journal-refusal journal job.0 r job.2)
+
   accepted_by : (command : Command) → IsAcceptedBy R command → IsAcceptedBy S command
   accepted_by (Check app) is = (is.0, of-application app is.0 is.1)
   accepted_by (Plan app) is = (is.0, of-application app is.0 is.1)
   accepted_by (Mean app base) is = (is.0, of-run app is.0 is.1)
   accepted_by (Sim app script settings order) is = (is.0, of-run-job app script settings is.0 is.1)
+  accepted_by (Audit app journal script settings) is = (is.0, of-audited app journal script settings is.0 is.1)
   accepted_by _ is = absurd is
 
   refused_by : (command : Command) (r : Refusal) → IsRefusedBy R command r → IsRefusedBy S command r
@@ -125,6 +146,7 @@ module _ (R S : Reading) (of : IsOf R S) where
   refused_by (Plan app) r is = of-application-refusal app r is
   refused_by (Mean app base) r is = of-run-refusal app r is
   refused_by (Sim app script settings order) r is = of-run-job-refusal app script settings r is
+  refused_by (Audit app journal script settings) r is = of-audit-refusal app journal script settings r is
   refused_by _ r is = is
 
   pub of-accepted : (words : List (List ℕ)) → AreAccepted R words → AreAccepted S words

@@ -9,8 +9,8 @@ use Rattle.apx_device.specs.declared.keeper.KeepRefusal.TheVariants as keep
 use Rattle.apx_device.specs.declared.folder.ReadRefusal.{ReadRefusal}
 use Rattle.apx_device.specs.declared.folder.ReadRefusal.TheVariants as read
 use Rattle.apx_device.specs.declared.folder.ReadRefusal.TheVariants.{Absent, TooLong, Failed}
-use Rattle.apx_device.specs.Folder.{Answer, Gave, StopsAt}
-use Rattle.apx_device.proofs.Hearing.{Gave-first, Gave-second}
+use Rattle.apx_device.specs.Folder.{Answer}
+use Rattle.apx_device.proofs.Hearing.{Gave-second}
 use Rattle.apx_load.specs.declared.refusal.Refusal.{Refusal}
 use Rattle.apx_load.specs.declared.stop.Stop.{Stop}
 use Rattle.apx_load.specs.declared.stop.Stop.TheVariants.{Refused, CannotRead, StoreFailed, OutputFailed, Memory, Large}

@@ -17,20 +17,23 @@ use Rattle.apx_pass.specs.Pass.{Dataflow}
 use Rattle.apx_load.specs.declared.refusal.LineCause.{LineCause}
 use Rattle.apx_load.specs.declared.refusal.LineCause.TheVariants as cause
 use Rattle.apx_load.specs.declared.refusal.Refusal.{Refusal}
-use Rattle.apx_load.specs.declared.refusal.Refusal.TheVariants.{NotACommand, NoFile, FileTooLong, NoJson, WrongShape, BrokenRule, RefusedLine, RefusedCommand, NotBuilt}
+use Rattle.apx_load.specs.declared.refusal.Refusal.TheVariants.{NotACommand, NoFile, FileTooLong, NoJson, WrongShape, BrokenRule, RefusedLine, RefusedCommand, RefusedEntry, NotBuilt}
 use Rattle.apx_cmd.specs.declared.commands.Command.{Command}
-use Rattle.apx_cmd.specs.declared.commands.Command.TheVariants.{Check, Plan, Mean, Sim}
+use Rattle.apx_cmd.specs.declared.commands.Command.TheVariants.{Check, Plan, Mean, Sim, Audit}
 use Rattle.apx_cmd.specs.Commands.{command_of}
 use Rattle.apx_pass.specs.Script.{Line, RefusedLine as RefusedScript, script_of}
 use Rattle.apx_script.specs.declared.settings.Settings.{Settings}
 use Rattle.apx_pass.specs.Job.{Job}
-use Rattle.apx_job.specs.Job.{refused_line}
+use Rattle.apx_audit.specs.Verdict as verdict
+use Rattle.apx_audit.proofs.Verdicts.{one_verdict}
+use Rattle.apx_job.specs.Job.{plan_of, refused_line}
 use Rattle.apx_job.specs.Prepared.{job_of}
 use Rattle.serde_json.specs.Data.{Data}
 use Rattle.apx_json.specs.Reading.{IsJson}
 use Rattle.apx_json.specs.Shape.{application_of}
 use Rattle.apx_dag.specs.Order.{Reaches}
 use Rattle.apx_load.specs.Jobs.{IsLineOfText, IsScript, IsScriptRefusal, IsLineOfJob, IsScripted, IsScriptedRefusal, IsJob, IsJobRefusal, kills, IsNotRun, IsRunJob, IsRunJobRefusal}
+use Rattle.apx_load.specs.Audits.{IsEntryRefusal, IsUnrefused, IsJournalFile, IsJournalRefusal, IsAudited, IsAuditRefusal}
 use Rattle.apx_load.specs.First.{IsAcceptedBy, IsRefusedBy, AreAccepted, IsRefusal, of_words, of_files}
 use Rattle.apx_load.specs.Refusals.{by_files, IsAppText, IsTextRefusal, IsFileRefusal, IsApplication, IsApplicationRefusal, cause_view, IsInputOf, IsLineRefusal, IsInputRefusal, AreRead, AreInputs, IsInputsRefusal, IsAcceptedRun, IsRunRefusal}
 
@@ -433,6 +436,37 @@ can_run_total job false is none unrefused = none job (is, refl)
 can_run_decided : (job : Job) → IsDecided Job (λ same. (kills job ≡ false) × (same ≡ job)) (IsNotRun job)
 can_run_decided job = record { accepted = λ x y p q. p.1 ∙ sym q.1; refused = not_run_refused job; apart = not_run_apart job; total = can_run_total job (kills job) refl }
 
+-- ---- a journal
+
+-- a first refused line is one
+entry_refused : (job : Job) (text : List ℕ) (r s : Refusal) → IsEntryRefusal job text r → IsEntryRefusal job text s → r ≡ s
+entry_refused job text (RefusedEntry l w) (RefusedEntry m v) p q =
+    let one : verdict.Refused l w ≡ verdict.Refused m v = one_verdict (plan_of job) text (verdict.Refused l w) (verdict.Refused m v) p q in
+    cc
+entry_refused job text (RefusedEntry l w) _ p q = absurd q
+entry_refused job text _ s p q = absurd p
+
+entry_apart : (job : Job) (text same : List ℕ) (r : Refusal) → IsUnrefused job text × (same ≡ text) → IsEntryRefusal job text r → ⊥
+entry_apart job text same (RefusedEntry l w) p q = p.0 l w q
+entry_apart job text same _ p q = absurd q
+
+entry_total : (job : Job) (text : List ℕ) → ((same : List ℕ) → IsUnrefused job text × (same ≡ text) → ⊥) → ((r : Refusal) → IsEntryRefusal job text r → ⊥) → ⊥
+entry_total job text none unrefused = none text ((λ l w is. unrefused (RefusedEntry l w) is), refl)
+
+entries_decided : (job : Job) (text : List ℕ) → IsDecided (List ℕ) (λ same. IsUnrefused job text × (same ≡ text)) (IsEntryRefusal job text)
+entries_decided job text = record { accepted = λ x y p q. p.1 ∙ sym q.1; refused = entry_refused job text; apart = entry_apart job text; total = entry_total job text }
+
+journal_decided : (told : List ℕ → Option (List ℕ)) (name : List ℕ) (job : Job) → IsDecided (List ℕ) (IsJournalFile (by_files told) name job) (IsJournalRefusal (by_files told) name job)
+journal_decided told name job =
+    let both : IsDecided (List ℕ) (λ same. (text : List ℕ) × by_files told name 67108864 (Ok text) × (IsUnrefused job text × (same ≡ text))) (IsJournalRefusal (by_files told) name job) =
+    then (List ℕ) (List ℕ) (λ text. by_files told name 67108864 (Ok text)) (IsFileRefusal (by_files told) name 67108864) (λ text same. IsUnrefused job text × (same ≡ text)) (IsEntryRefusal job) (file_decided told name 67108864) (entries_decided job) in
+    record {
+      accepted = λ x y p q. both.accepted x y (x, p.read, (p.unrefused, refl)) (y, q.read, (q.unrefused, refl));
+      refused = both.refused;
+      apart = λ x r p q. both.apart x r (x, p.read, (p.unrefused, refl)) q;
+      total = λ none unrefused. both.total (λ same is. none is.0 (record { read = is.1; unrefused = is.2.0 })) unrefused;
+    }
+
 -- ---- words and files
 
 abbrev dataflow : List Node → List groups.Input → Dataflow
@@ -483,11 +517,24 @@ module _ (told : List ℕ → Option (List ℕ)) where
   pub job-unique : (name : List ℕ) (script : Option (List ℕ)) (settings : Settings) (job other : Job) → IsRunJob (by_files told) name script settings job → IsRunJob (by_files told) name script settings other → job ≡ other
   job-unique name script settings = (run_job_decided name script settings).accepted
 
+  audit_decided : (app journal : List ℕ) (script : Option (List ℕ)) (settings : Settings) → IsDecided (List ℕ) (IsAudited (by_files told) app journal script settings) (IsAuditRefusal (by_files told) app journal script settings)
+  audit_decided app journal script settings =
+      then Job (List ℕ) (IsJob (by_files told) app script settings) (IsJobRefusal (by_files told) app script settings) (λ job. IsJournalFile (by_files told) journal job) (λ job. IsJournalRefusal (by_files told) journal job) (job_decided app script settings) (λ job. journal_decided told journal job)
+
+  -- a journal isn't both accepted and refused
+  pub audited-or-refused : (app journal : List ℕ) (script : Option (List ℕ)) (settings : Settings) (text : List ℕ) (r : Refusal) → IsAudited (by_files told) app journal script settings text → IsAuditRefusal (by_files told) app journal script settings r → ⊥
+  audited-or-refused app journal script settings = (audit_decided app journal script settings).apart
+
+  -- the first refusal of a journal is one
+  pub audit-refusal-unique : (app journal : List ℕ) (script : Option (List ℕ)) (settings : Settings) (r s : Refusal) → IsAuditRefusal (by_files told) app journal script settings r → IsAuditRefusal (by_files told) app journal script settings s → r ≡ s
+  audit-refusal-unique app journal script settings = (audit_decided app journal script settings).refused
+
   refused_by : (command : Command) (r s : Refusal) → IsRefusedBy (by_files told) command r → IsRefusedBy (by_files told) command s → r ≡ s
   refused_by (Check app) r s p q = (application_decided told app).refused r s p q
   refused_by (Plan app) r s p q = (application_decided told app).refused r s p q
   refused_by (Mean app base) r s p q = (run_decided app).refused r s p q
   refused_by (Sim app script settings order) r s p q = (run_job_decided app script settings).refused r s p q
+  refused_by (Audit app journal script settings) r s p q = (audit_decided app journal script settings).refused r s p q
   refused_by _ r s p q = p ∙ sym q
 
   apart_by : (command : Command) (r : Refusal) → IsAcceptedBy (by_files told) command → IsRefusedBy (by_files told) command r → ⊥
@@ -495,6 +542,7 @@ module _ (told : List ℕ → Option (List ℕ)) where
   apart_by (Plan app) r p q = (application_decided told app).apart p.0 r p.1 q
   apart_by (Mean app base) r p q = (run_decided app).apart p.0 r p.1 q
   apart_by (Sim app script settings order) r p q = (run_job_decided app script settings).apart p.0 r p.1 q
+  apart_by (Audit app journal script settings) r p q = (audit_decided app journal script settings).apart p.0 r p.1 q
   apart_by _ r p q = absurd p
 
   total_by : (command : Command) → (IsAcceptedBy (by_files told) command → ⊥) → ((r : Refusal) → IsRefusedBy (by_files told) command r → ⊥) → ⊥
@@ -502,6 +550,7 @@ module _ (told : List ℕ → Option (List ℕ)) where
   total_by (Plan app) none unrefused = (application_decided told app).total (λ nodes is. none (nodes, is)) unrefused
   total_by (Mean app base) none unrefused = (run_decided app).total (λ flow is. none (flow, is)) unrefused
   total_by (Sim app script settings order) none unrefused = (run_job_decided app script settings).total (λ job is. none (job, is)) unrefused
+  total_by (Audit app journal script settings) none unrefused = (audit_decided app journal script settings).total (λ text is. none (text, is)) unrefused
   total_by _ none unrefused = unrefused NotBuilt refl
 
   module _ (words : List (List ℕ)) where

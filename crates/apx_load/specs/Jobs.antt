@@ -2,7 +2,7 @@
 --     IsScript reading script lines                     the script's file is accepted, and its commands
 --     IsJob reading name script settings job            application, inputs and script are accepted, and their job
 --     IsJobRefusal reading name script settings refusal the first thing that is refused
-use Rattle.std.specs.Prelude.{◌≡◌, ℕ, ◌⊎◌, Bool, true, false, List, [], Option, Some, None, Result, Ok, Err, ⊤}
+use Rattle.std.specs.Prelude.{◌≡◌, ℕ, ◌⊎◌, Bool, true, false, List, [], Option, Some, None, Ok, Err}
 use Rattle.apx_pass.specs.Pass.{Dataflow}
 use Rattle.std.specs.List.{list_any}
 use Rattle.apx_pass.specs.Script.{Act, Kill, Repartition, Line, script_of}

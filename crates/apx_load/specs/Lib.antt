@@ -1,3 +1,4 @@
+pub mod Audits
 pub mod First
 pub mod Hearing
 pub mod Jobs

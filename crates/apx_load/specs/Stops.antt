@@ -8,6 +8,8 @@ use Rattle.apx_cmd.specs.declared.refusal.CommandRefusal.{CommandRefusal}
 use Rattle.apx_cmd.specs.declared.refusal.CommandRefusal.TheVariants as words
 use Rattle.apx_script.specs.declared.refusal.ScriptRefusal.{ScriptRefusal}
 use Rattle.apx_script.specs.declared.refusal.ScriptRefusal.TheVariants as script
+use Rattle.apx_audit.specs.declared.audited.AuditRefusal.{AuditRefusal}
+use Rattle.apx_audit.specs.declared.audited.AuditRefusal.TheVariants as journal
 use Rattle.apx_tuple.specs.declared.refusal.Short.{Short}
 use Rattle.apx_tuple.specs.declared.refusal.Short.TheVariants as short
 use Rattle.apx_device.specs.declared.keeper.KeepRefusal.{KeepRefusal}
@@ -17,7 +19,7 @@ use Rattle.apx_device.specs.declared.folder.ReadRefusal.TheVariants as read
 use Rattle.apx_device.specs.declared.folder.ReadRefusal.TheVariants.{Absent, TooLong, Failed}
 use Rattle.apx_device.specs.Folder.{Answer, StopsAt}
 use Rattle.apx_load.specs.declared.refusal.Refusal.{Refusal}
-use Rattle.apx_load.specs.declared.refusal.Refusal.TheVariants.{NotACommand, NoFile, FileTooLong, NoJson, WrongShape, BrokenRule, RefusedCommand}
+use Rattle.apx_load.specs.declared.refusal.Refusal.TheVariants.{NotACommand, NoFile, FileTooLong, NoJson, WrongShape, BrokenRule, RefusedCommand, RefusedEntry}
 use Rattle.apx_load.specs.declared.stop.Stop.{Stop}
 use Rattle.apx_load.specs.declared.stop.Stop.TheVariants.{Refused, CannotRead, StoreFailed, OutputFailed, Memory, Large}
 
@@ -59,7 +61,7 @@ abbrev pub reading_causes : (Refusal → Type 0) → List Answer → Type 0 → 
 reading_causes refuses answers rose =
     record no_causes { refuses = refuses; unread = λ name. rose × StopsAt answers name Failed }
 
--- ---- the stop for a refusal of words, of an application's text or graph, of a script, of the store, or for a size
+-- ---- the stop for a refusal of words, of an application's text or graph, of a script, of a journal, of the store, or for a size
 
 -- the stop for a refusal of words
 abbrev pub stop_of_words : CommandRefusal → Stop
@@ -81,6 +83,11 @@ stop_of_graph graph.Memory = Memory
 abbrev pub stop_of_script : ScriptRefusal → Stop
 stop_of_script (script.Line line why) = Refused (RefusedCommand line why)
 stop_of_script script.Memory = Memory
+
+-- the stop for a refusal of a journal
+abbrev pub stop_of_journal : AuditRefusal → Stop
+stop_of_journal (journal.Line line why) = Refused (RefusedEntry line why)
+stop_of_journal journal.Memory = Memory
 
 -- the stop for a refusal of the sink's store
 abbrev pub stop_of_store : KeepRefusal → Stop

@@ -13,7 +13,8 @@ pub enum LineCause {
 }
 
 /// The first thing that is refused, in this order: the words, the application's file, its text and its
-/// graph, then for each input its file and its lines, then the script's file and its lines.
+/// graph, then for each input its file and its lines, then the script's file and its lines, then the journal's
+/// file and its lines.
 #[derive(Debug, Drop)]
 pub enum Refusal {
     /// The words are no command.
@@ -22,7 +23,7 @@ pub enum Refusal {
     NoFile {
         name: Name,
     },
-    /// The file passes its limit: 1 MiB for an application, 16 MiB for an input.
+    /// The file passes its limit: 1 MiB for an application or a script, 16 MiB for an input, 64 MiB for a journal.
     FileTooLong {
         name: Name,
     },
@@ -45,6 +46,11 @@ pub enum Refusal {
     },
     /// The first line of the script that is refused, counted from 1, and why: 1 to 10.
     RefusedCommand {
+        line: u64,
+        why: u8,
+    },
+    /// The first line of the journal that is refused, counted from 1, and why: 1 for its form, 2 for its entry.
+    RefusedEntry {
         line: u64,
         why: u8,
     },

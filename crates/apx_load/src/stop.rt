@@ -1,5 +1,6 @@
 //! Why a run stops before its end.
 use crate::refusal::Refusal;
+use apx_audit::AuditRefusal;
 use apx_cmd::CommandRefusal;
 use apx_dag::AppRefusal;
 use apx_device::{Failed, KeepRefusal};
@@ -106,6 +107,20 @@ impl From<ScriptRefusal> for Stop {
                 why,
             }),
             ScriptRefusal::Memory => Stop::Memory,
+        }
+    }
+}
+
+impl From<AuditRefusal> for Stop {
+    ghost use Rattle.std.specs.Prelude.{◌≡◌};
+    ghost use Rattle.apx_load.specs.Stops.{stop_of_journal};
+
+    ghost from_gives = { λ refusal stop. stop ≡ stop_of_journal refusal };
+
+    fn from(refusal: AuditRefusal) -> Stop {
+        match refusal {
+            AuditRefusal::Line { line, why } => Stop::Refused(Refusal::RefusedEntry { line, why }),
+            AuditRefusal::Memory => Stop::Memory,
         }
     }
 }

@@ -260,3 +260,48 @@ fn a_script_is_read_behind_the_inputs(rt: HostRuntime) -> Result<(), Fail> {
     assert_eq!(rt; (job.windows(), job.lines().len()), (1, 0));
     Ok(())
 }
+
+/// How many entries the journal in a file has, judged for the job of these files with a script.
+fn audited(alloc: Global, files: &[(&str, &str)]) -> Result<Result<usize, Stop>, Fail> {
+    let mut files = folder(alloc, files)?;
+    let script = Name::of(alloc, "script")?;
+    match audit(
+        alloc,
+        &mut files,
+        "app",
+        "journal",
+        Some(&script),
+        Settings::default(),
+    ) {
+        Ok(audited) => Ok(Ok(audited.journal.entries().len())),
+        Err(stop) => Ok(Err(stop)),
+    }
+}
+
+#[test]
+fn a_journal_is_read_behind_the_script(rt: HostRuntime) -> Result<(), Fail> {
+    let alloc = rt.alloc();
+    let mut files = Vec::new(alloc);
+    for file in [("app", WORD_COUNT), ("in.txt", "")] {
+        files.push(file)?;
+    }
+    let Err(Stop::Refused(Refusal::NoFile { name })) = audited(alloc, &files)? else {
+        return Err("no refusal")?;
+    };
+    assert_eq!(rt; name.text(), "script");
+    files.push(("script", ""))?;
+    let Err(Stop::Refused(Refusal::NoFile { name })) = audited(alloc, &files)? else {
+        return Err("no refusal")?;
+    };
+    assert_eq!(rt; name.text(), "journal");
+    files.push(("journal", "0 end\n"))?;
+    assert!(rt; matches!(audited(alloc, &files)?, Ok(1)));
+    files.pop();
+    files.push(("journal", "0 end\n0 end\n"))?;
+    let refused = matches!(
+        audited(alloc, &files)?,
+        Err(Stop::Refused(Refusal::RefusedEntry { line: 2, why: 2 }))
+    );
+    assert!(rt; refused);
+    Ok(())
+}

@@ -1,5 +1,5 @@
 -- What the end of a command says of words and files.
-use Rattle.std.proofs.Common.{◌≡◌, ℕ, ◌⊎◌, inl, inr, List, [], ◌∷◌, ◌++◌, length, Bool, true, false, refl, sym, ap, ◌∙◌, subst, IsTrue}
+use Rattle.std.proofs.Common.{◌≡◌, ℕ, inl, inr, List, [], ◌∷◌, ◌++◌, Bool, true, refl, sym, ap, ◌∙◌, subst, IsTrue}
 use Rattle.std.specs.Prelude.{Result, Ok, Err, ⊤, Option, Some, None, is_some}
 use Rattle.std.specs.Prelude.{option_map}
 use Rattle.std.specs.Option.{option_copied}
@@ -8,13 +8,12 @@ use Rattle.apx_device.specs.Folder.{Answer, AreTold}
 use Rattle.apx_device.specs.Out.{GotFront}
 use Rattle.apx_load.specs.Hearing.{HasHeard}
 use Rattle.apx_load.proofs.Heard.{heard_none}
-use Rattle.apx_pass.specs.Large.{IsLargeDataflow}
 use Rattle.apx_pass.specs.Pass.{Dataflow}
 use Rattle.apx_pass.specs.Graph.{Role, Input, Inner, Sink, Node}
 use Rattle.apx_load.specs.declared.stop.Stop.{Stop}
 use Rattle.apx_load.specs.declared.stop.Stop.TheVariants.{Refused, CannotRead, StoreFailed, OutputFailed, Memory, Large}
 use Rattle.apx_load.specs.declared.refusal.Refusal.{Refusal}
-use Rattle.apx_load.specs.declared.refusal.Refusal.TheVariants.{NotACommand, NoFile, FileTooLong, NoJson, WrongShape, BrokenRule, RefusedLine, RefusedCommand, NotBuilt}
+use Rattle.apx_load.specs.declared.refusal.Refusal.TheVariants.{NotACommand, NotBuilt}
 use Rattle.apx_cmd.specs.declared.commands.Command.{Command}
 use Rattle.apx_cmd.specs.declared.commands.Command.TheVariants.{Check, Plan, Mean, Sim, Run, Gen, Group, Trace, Audit}
 use Rattle.apx_cmd.specs.declared.refusal.CommandRefusal.{CommandRefusal}
@@ -26,15 +25,17 @@ use Rattle.apx_pass.specs.Job.{Job}
 use Rattle.apx_plan.specs.Plan.{plan_text}
 use Rattle.apx_load.specs.Refusals.{Reading, by_answers, by_files, IsFileRefusal, IsApplication, IsApplicationRefusal, IsInputRefusal, IsInputsRefusal, IsRunRefusal}
 use Rattle.apx_load.specs.Jobs.{IsScriptRefusal, IsScriptedRefusal, IsJobRefusal, IsRunJob, IsRunJobRefusal}
+use Rattle.apx_load.specs.Audits.{IsJournalRefusal, IsAuditRefusal}
 use Rattle.apx_load.specs.First.{IsAcceptedBy, AreAccepted, IsRefusal, of_words, of_files}
 use Rattle.apx_load.specs.Stops.{Causes, IsCaused, no_causes, reading_causes, stop_of_words}
+use Rattle.apx_load.proofs.Auditing.{audited-of-legal}
 use Rattle.apx_load.proofs.Readings.{by-told, of-accepted, of-refusal, of-run, of-run-job}
-use Rattle.apx_load.proofs.Stopping.{AreWeaker, caused_weaker}
+use Rattle.apx_load.proofs.Stopping.{caused_weaker}
 use Rattle.apx_load.proofs.Unique.{refusal-unique, accepted-or-refused}
 use Rattle.apx_top.specs.Changes.{StoreChange, OutputChange, Call, call_of}
 use Rattle.apx_top.specs.Store.{storing_causes}
-use Rattle.apx_top.specs.Run.{Told, HasRunTo, HasPassedTo, printing_causes, run_reading_causes, stopped_reading, passed}
-use Rattle.apx_top.specs.Plain.{Telling, of_application, of_pass, telling_causes, LeavesOf, HasToldTo, ok_text, HasStayed, HasTold, HasJudged, HasPerformed, HasEnded, no_command, unread, performed, HasRefused, IsLargeBy, IsLargeRun, IsComplete}
+use Rattle.apx_top.specs.Run.{Told, HasRunTo, printing_causes, run_reading_causes, stopped_reading, passed}
+use Rattle.apx_top.specs.Plain.{Telling, of_application, of_pass, of_journal, telling_causes, LeavesOf, HasToldTo, ok_text, HasStayed, HasTold, HasJudged, HasPerformed, HasEnded, no_command, unread, performed, HasRefused, IsLargeBy, IsLargeRun, IsComplete}
 
 -- what can stop a command at all: a refusal of its words and files; a file that can't be read; a fault of the store or of
 -- the output, once words and files were accepted; or a dataflow that is too large
@@ -130,6 +131,14 @@ run_job_apart : (reading : Reading) (name : List ℕ) (script : Option (List ℕ
 run_job_apart reading name script settings (inl is) = job_apart reading name script settings is
 run_job_apart reading name script settings (inr is) = is.2
 
+journal_apart : (reading : Reading) (name : List ℕ) (job : Job) → IsJournalRefusal reading name job NotACommand → ⊥
+journal_apart reading name job (inl is) = is
+journal_apart reading name job (inr is) = is.2
+
+audit_apart : (reading : Reading) (app journal : List ℕ) (script : Option (List ℕ)) (settings : Settings) → IsAuditRefusal reading app journal script settings NotACommand → ⊥
+audit_apart reading app journal script settings (inl is) = job_apart reading app script settings is
+audit_apart reading app journal script settings (inr is) = journal_apart reading journal is.0 is.2
+
 -- words aren't both none and some command
 none_and_some : (command : Option Command) → command ≡ None → is_some command ≡ true → ⊥
 none_and_some None none some = cc
@@ -166,6 +175,15 @@ module _ (words : List (List ℕ)) (call : Call) where
       (λ flow a. record { command = Mean app base; words_are = command; files = (flow, a) })
       (λ r refused. of_files (Mean app base) r command refused)
       (λ flow a large. record { command = Mean app base; words_are = command; large = (flow, a, large) })
+      is.told
+
+  -- a legal journal is told
+  audit_end : (app journal : List ℕ) (script : Option (List ℕ)) (settings : Settings) (end : Result ⊤ Stop) → command_of words ≡ Some (Audit app journal script settings) → HasTold (of_journal (by_answers call.answers) app journal script settings) call end → HasCause (by_answers call.answers) words call.folder call.store.rose call.output.rose end
+  audit_end app journal script settings end command is =
+      told_end (of_journal (by_answers call.answers) app journal script settings) end
+      (λ es legal. record { command = Audit app journal script settings; words_are = command; files = audited-of-legal (by_answers call.answers) app journal script settings es legal })
+      (λ r refused. of_files (Audit app journal script settings) r command refused)
+      (λ es legal none. absurd none)
       is.told
 
   accepted : (told : Told) (order : ℕ) (job : Job) → command_of words ≡ Some (Sim told.app told.script told.settings order) → IsRunJob (by_answers call.answers) told.app told.script told.settings job → AreAccepted (by_answers call.answers) words
@@ -213,7 +231,7 @@ module _ (words : List (List ℕ)) (call : Call) where
   command_end (Gen number size) end is stayed = unbuilt_end (Gen number size) end (of_files (Gen number size) NotBuilt is refl) stayed
   command_end (Group app groups script settings) end is stayed = unbuilt_end (Group app groups script settings) end (of_files (Group app groups script settings) NotBuilt is refl) stayed
   command_end (Trace app script settings order) end is stayed = unbuilt_end (Trace app script settings order) end (of_files (Trace app script settings order) NotBuilt is refl) stayed
-  command_end (Audit app journal script settings) end is stayed = unbuilt_end (Audit app journal script settings) end (of_files (Audit app journal script settings) NotBuilt is refl) stayed
+  command_end (Audit app journal script settings) end is told = audit_end app journal script settings end is told
 
   end_cause : (end : Result ⊤ Stop) → HasEnded words call end → HasCause (by_answers call.answers) words call.folder call.store.rose call.output.rose end
   end_cause end (no_command none stayed) = rw stayed.is (of_words none)
@@ -234,6 +252,7 @@ module _ (words : List (List ℕ)) (call : Call) where
   apart r (of_files (Plan app) refusal command is) e = absurd (application_apart (by_answers call.answers) app (subst (IsApplicationRefusal (by_answers call.answers) app) e is))
   apart r (of_files (Mean app base) refusal command is) e = absurd (run_apart (by_answers call.answers) app (subst (IsRunRefusal (by_answers call.answers) app) e is))
   apart r (of_files (Sim app script settings order) refusal command is) e = absurd (run_job_apart (by_answers call.answers) app script settings (subst (IsRunJobRefusal (by_answers call.answers) app script settings) e is))
+  apart r (of_files (Audit app journal script settings) refusal command is) e = absurd (audit_apart (by_answers call.answers) app journal script settings (subst (IsAuditRefusal (by_answers call.answers) app journal script settings) e is))
   apart r (of_files _ refusal command is) e = let built : refusal ≡ NotBuilt = is in cc
 
   -- and no others
@@ -305,6 +324,7 @@ IsUnbuilt (Check app) = ⊥
 IsUnbuilt (Plan app) = ⊥
 IsUnbuilt (Mean app base) = ⊥
 IsUnbuilt (Sim app script settings order) = ⊥
+IsUnbuilt (Audit app journal script settings) = ⊥
 IsUnbuilt _ = ⊤
 
 module _ (tells : Bool) (files : List ℕ → Option (List ℕ)) (heard : List Answer → Type 0) (folder : Type 0) (store : StoreChange) (output : OutputChange) (same : store.same) (unprinted : output.after ≡ output.before) where
@@ -320,11 +340,21 @@ module _ (tells : Bool) (files : List ℕ → Option (List ℕ)) (heard : List A
   unbuilt_by (Gen number size) is = stayed_heard
   unbuilt_by (Group app groups script settings) is = stayed_heard
   unbuilt_by (Trace app script settings order) is = stayed_heard
-  unbuilt_by (Audit app journal script settings) is = stayed_heard
+  unbuilt_by (Audit app journal script settings) is = absurd is
 
   -- a command that isn't built is told so
   pub unbuilt_heard : (given command : Command) → given ≡ command → IsUnbuilt command → HasHeard tells files heard heard (λ answers. HasPerformed given (call_of answers folder store output) (Err (Refused NotBuilt)))
   unbuilt_heard given command e is = subst (λ (c : Command). HasHeard tells files heard heard (λ answers. HasPerformed c (call_of answers folder store output) (Err (Refused NotBuilt)))) (sym e) (unbuilt_by command is)
+
+-- an audit that is told by lent names
+pub audit_by : (lent_app app lent_journal journal : List ℕ) (lent : Option (Bor (List ℕ))) (script : Option (List ℕ)) (settings : Settings) (given : Command) (call : Call) (end : Result ⊤ Stop) → lent_app ≡ app → lent_journal ≡ journal → option_copied lent ≡ script → given ≡ Audit app journal script settings → call.store.same →
+    HasToldTo (of_journal (by_answers call.answers) lent_app lent_journal (option_map (λ n. n.now) lent) settings) call.answers call.folder call.output end → HasPerformed given call end
+audit_by lent_app app lent_journal journal lent script settings given call end same_app same_journal copied is same told =
+    let T : List ℕ → List ℕ → Option (List ℕ) → Type 0 = λ a j s. HasToldTo (of_journal (by_answers call.answers) a j s settings) call.answers call.folder call.output end in
+    subst (λ (c : Command). HasPerformed c call end) (sym is) (record {
+      same = same;
+      told = subst (λ (s : Option (List ℕ)). T app journal s) copied (subst (λ (j : List ℕ). T app j (option_map (λ n. n.now) lent)) same_journal (subst (λ (a : List ℕ). T a lent_journal (option_map (λ n. n.now) lent)) same_app told));
+    })
 
 -- a run that is told by lent names
 pub told_by : (lent_app app : List ℕ) (lent : Option (Bor (List ℕ))) (script : Option (List ℕ)) (settings : Settings) (order : ℕ) (given : Command) (call : Call) (end : Result ⊤ Stop) → lent_app ≡ app → option_copied lent ≡ script → given ≡ Sim app script settings order → HasRunTo (record { app = lent_app; script = option_map (λ n. n.now) lent; settings = settings }) call end → HasPerformed given call end

@@ -1,4 +1,5 @@
 pub mod Acting
+pub mod Auditing
 pub mod Numbered
 pub mod Printing
 pub mod Runnable

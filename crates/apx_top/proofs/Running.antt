@@ -1,5 +1,5 @@
 -- What storing and printing say of a run.
-use Rattle.std.proofs.Common.{◌≡◌, ℕ, ◌≤◌, inl, inr, List, [], ◌∷◌, ◌++◌, length, take, max, refl, sym, ap, ◌∙◌, subst, arith, Bool, IsTrue, IfErr}
+use Rattle.std.proofs.Common.{◌≡◌, ℕ, ◌≤◌, inr, List, [], ◌∷◌, ◌++◌, length, take, max, refl, sym, ap, ◌∙◌, subst, arith, IsTrue, IfErr}
 use Rattle.std.specs.Prelude.{Result, Ok, Err, ⊤}
 use Rattle.apx_cause.specs.Cause.{Rose}
 use Rattle.apx_tuple.specs.declared.tuple.Tuple.{Tuple}
@@ -8,10 +8,10 @@ use Rattle.apx_pass.specs.Pass.{windows, mean}
 use Rattle.apx_pass.specs.Job.{Job}
 use Rattle.apx_pass.specs.Texts.{windows_text}
 use Rattle.apx_load.specs.declared.stop.Stop.{Stop}
-use Rattle.apx_load.specs.Stops.{IsCaused, no_causes}
+use Rattle.apx_load.specs.Stops.{IsCaused}
 use Rattle.apx_load.proofs.Stopping.{caused_weaker}
 use Rattle.apx_top.specs.Changes.{StoreChange, OutputChange}
-use Rattle.apx_top.specs.Run.{run_text, printing_causes, HasStored, HasRun, HasStoredSome, HasPrintedSome, HasPassedTo}
+use Rattle.apx_top.specs.Run.{run_text, printing_causes, HasStored, HasPassedTo}
 use Rattle.apx_top.specs.Sent.{HasWritten}
 use Rattle.apx_top.specs.Store.{HoldsPrefix}
 use Rattle.apx_top.proofs.Storing.{length-mean_up_to}

@@ -1,5 +1,5 @@
 -- The job of an application and its inputs without a script: its dataflow is theirs, and no more of it is refused.
-use Rattle.std.proofs.Common.{◌≡◌, ℕ, ◌⊎◌, inl, inr, List, [], ◌∷◌, refl, sym, ap, subst}
+use Rattle.std.proofs.Common.{◌≡◌, ℕ, inl, inr, List, [], refl, sym, ap, subst}
 use Rattle.std.specs.Prelude.{Result, Ok, Err, None, MatchResult}
 use Rattle.apx_device.specs.Folder.{Answer}
 use Rattle.apx_pass.specs.Graph.{Node}

@@ -3,7 +3,7 @@ use Rattle.std.specs.Prelude.{ℕ, ◌==◌, if◌then◌else◌, length, List, 
 use Rattle.apx_load.specs.declared.refusal.LineCause.{LineCause}
 use Rattle.apx_load.specs.declared.refusal.LineCause.TheVariants.{TooMany, TooLong, BadPair}
 use Rattle.apx_load.specs.declared.refusal.Refusal.{Refusal}
-use Rattle.apx_load.specs.declared.refusal.Refusal.TheVariants.{NotACommand, NoFile, FileTooLong, NoJson, WrongShape, BrokenRule, RefusedLine, RefusedCommand, NotBuilt}
+use Rattle.apx_load.specs.declared.refusal.Refusal.TheVariants.{NotACommand, NoFile, FileTooLong, NoJson, WrongShape, BrokenRule, RefusedLine, RefusedCommand, RefusedEntry, NotBuilt}
 use Rattle.apx_load.specs.declared.stop.Stop.{Stop}
 use Rattle.apx_load.specs.declared.stop.Stop.TheVariants.{Refused, CannotRead, StoreFailed, OutputFailed, Memory, Large}
 
@@ -17,6 +17,7 @@ refusal_status (WrongShape place) = 5
 refusal_status (BrokenRule code place) = 5
 refusal_status (RefusedLine file line cause) = 6
 refusal_status (RefusedCommand line why) = 7
+refusal_status (RefusedEntry line why) = 16
 refusal_status NotBuilt = 1
 
 -- the exit status of a stop
@@ -50,6 +51,8 @@ refusal_line (BrokenRule code place) =
 refusal_line (RefusedLine file line cause) = codes "apex: line " ++ (decimal line ++ (codes " of " ++ (file ++ cause_text cause)))
 refusal_line (RefusedCommand line why) =
     codes "apex: script line " ++ (decimal line ++ (codes " refused: S" ++ (decimal why ++ codes "\n")))
+refusal_line (RefusedEntry line why) =
+    codes "apex: journal line " ++ (decimal line ++ (codes " refused: J" ++ (decimal why ++ codes "\n")))
 refusal_line NotBuilt = codes "apex: not a command\n"
 
 -- nothing is said of an output that failed

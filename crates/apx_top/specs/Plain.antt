@@ -1,5 +1,6 @@
 -- How the program ends, by its words and by what its folder answered.
-use Rattle.std.specs.Prelude.{◌≡◌, ℕ, ◌⊎◌, true, IsTrue, List, [], ◌++◌, length, Some, None, is_some, Result, Ok, Err, codes, ⊤}
+use Rattle.std.specs.Prelude.{◌≡◌, ℕ, ◌⊎◌, true, IsTrue, List, [], ◌++◌, length, Option, Some, None, is_some, Result, Ok, Err, codes, ⊤}
+use Rattle.apx_history.specs.declared.Entry.{Entry}
 use Rattle.apx_device.specs.Folder.{Answer}
 use Rattle.apx_device.specs.Out.{GotFront}
 use Rattle.apx_pass.specs.Graph.{Node}
@@ -10,13 +11,16 @@ use Rattle.apx_load.specs.declared.stop.Stop.TheVariants.{Refused, OutputFailed,
 use Rattle.apx_load.specs.declared.refusal.Refusal.{Refusal}
 use Rattle.apx_load.specs.declared.refusal.Refusal.TheVariants.{NotACommand, NotBuilt}
 use Rattle.apx_cmd.specs.declared.commands.Command.{Command}
-use Rattle.apx_cmd.specs.declared.commands.Command.TheVariants.{Check, Plan, Mean, Sim}
+use Rattle.apx_cmd.specs.declared.commands.Command.TheVariants.{Check, Plan, Mean, Sim, Audit}
 use Rattle.apx_cmd.specs.Commands.{command_of}
 use Rattle.apx_pass.specs.Job.{Job}
+use Rattle.apx_script.specs.declared.settings.Settings.{Settings}
 use Rattle.apx_plan.specs.Plan.{plan_text}
 use Rattle.apx_load.specs.Refusals.{Reading, by_answers, IsApplication, IsApplicationRefusal, IsAcceptedRun, IsRunRefusal}
 use Rattle.apx_load.specs.Jobs.{IsRunJob}
+use Rattle.apx_load.specs.Audits.{IsLegal, IsAuditRefusal}
 use Rattle.apx_load.specs.Stops.{Causes, IsCaused, no_causes, reading_causes}
+use Rattle.apx_top.specs.Audits.{legal_text}
 use Rattle.apx_top.specs.Changes.{OutputChange, Call}
 use Rattle.apx_top.specs.Lines.{status_of, line_of}
 use Rattle.apx_top.specs.Run.{mean_text, HasRunTo}
@@ -51,6 +55,15 @@ of_pass base reading name = record {
   refused = IsRunRefusal reading name;
   large = IsLargeDataflow;
   text = mean_text base;
+}
+
+-- the verdict on the journal in a file, for the job of other files and settings
+abbrev pub of_journal : Reading → (app journal : List ℕ) → Option (List ℕ) → Settings → Telling (List Entry)
+of_journal reading app journal script settings = record {
+  accepted = IsLegal reading app journal script settings;
+  refused = IsAuditRefusal reading app journal script settings;
+  large = λ es. ⊥;
+  text = legal_text;
 }
 
 -- what stops it: a refusal of its files and a file that can't be read; and once they are accepted a size, and an output that
@@ -107,14 +120,16 @@ pub record HasJudged (text : List Node → List ℕ) (name : List ℕ) (call : C
   -- it was told
   pub judged : HasTold (of_application text (by_answers call.answers) name) call end
 
--- How a command ends: `check` and `plan` tell something of an application, `mean` the rows of the one pass, `sim` runs a job,
--- and the others aren't built yet.
+-- How a command ends: `check` and `plan` tell something of an application, `mean` the rows of the one pass, `audit` of a journal,
+-- `sim` runs a job, and the others aren't built yet.
 abbrev pub HasPerformed : Command → Call → Result ⊤ Stop → Type 0
 HasPerformed (Check app) call end = HasJudged ok_text app call end
 HasPerformed (Plan app) call end = HasJudged plan_text app call end
 HasPerformed (Mean app base) call end = HasTold (of_pass base (by_answers call.answers) app) call end
 HasPerformed (Sim app script settings order) call end =
     HasRunTo (record { app = app; script = script; settings = settings }) call end
+HasPerformed (Audit app journal script settings) call end =
+    HasTold (of_journal (by_answers call.answers) app journal script settings) call end
 HasPerformed _ call end = HasStayed call end (Refused NotBuilt)
 
 -- How the program ends: the words are no command, or there was no memory to read them, and nothing is read or touched; or

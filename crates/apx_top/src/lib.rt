@@ -3,8 +3,11 @@
 
 pub use plain::{Devices, Ended, apex_plain};
 
+mod audit;
 #[cfg(test)]
 mod examples;
+#[cfg(test)]
+mod journals;
 mod mean;
 mod plain;
 mod print;

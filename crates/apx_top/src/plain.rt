@@ -1,5 +1,5 @@
 //! The whole program on one thread, from its words to its status.
-ghost use Rattle.std.specs.Prelude.{◌≡◌, ◌≤◌, ◌↔◌, None, Err, map, string_bytes, IsTrue};
+ghost use Rattle.std.specs.Prelude.{◌≡◌, ◌≤◌, ◌↔◌, ◌⊎◌, None, Err, map, string_bytes, IsTrue};
 ghost use Rattle.apx_cause.specs.Cause.{Rose};
 ghost use Rattle.apx_load.specs.declared.refusal.Refusal.{Refusal};
 ghost use Rattle.apx_load.specs.Hearing.{HasHeard};
@@ -7,9 +7,11 @@ ghost use Rattle.apx_load.specs.Refusals.{by_files};
 ghost use Rattle.apx_load.specs.First.{AreAccepted, IsRefusal};
 ghost use Rattle.apx_cmd.specs.Bounds.{IsBounded};
 ghost use Rattle.apx_cmd.specs.Commands.{command_of};
+ghost use Rattle.apx_top.specs.Audits.{AnswersAudits};
 ghost use Rattle.apx_top.specs.Changes.{call_of, store_change, output_change};
 ghost use Rattle.apx_top.specs.Plain.{HasPerformed, HasEnded, HasRefused, IsLargeRun, IsComplete, status_after, line_after, HasSaid};
 
+use crate::audit::audit;
 use crate::mean::mean;
 use crate::say::{say, status};
 use crate::sim::sim;
@@ -80,7 +82,20 @@ fn perform<F: Folder, K: Keeper, O: Out>(
         Command::Gen { .. } => Err(Stop::Refused(Refusal::NotBuilt)),
         Command::Group { .. } => Err(Stop::Refused(Refusal::NotBuilt)),
         Command::Trace { .. } => Err(Stop::Refused(Refusal::NotBuilt)),
-        Command::Audit { .. } => Err(Stop::Refused(Refusal::NotBuilt)),
+        Command::Audit {
+            app,
+            journal,
+            script,
+            settings,
+        } => audit(
+            alloc,
+            files,
+            app.text(),
+            journal.text(),
+            script.as_ref(),
+            *settings,
+            out,
+        ),
     }
 }
 
@@ -104,16 +119,16 @@ fn act<F: Folder, K: Keeper, O: Out>(
 }
 
 /// Does what the words ask for: `check APP` judges an application, `plan APP` prints its operators and their
-/// partitions, `mean APP` prints the rows of each window of one pass over it and its inputs, and `sim APP` with its
-/// options runs it on one thread. The other commands aren't built yet, and no more is a run whose script kills a
-/// partition.
+/// partitions, `mean APP` prints the rows of each window of one pass over it and its inputs, `sim APP` with its options
+/// runs it on one thread, and `audit APP JOURNAL` with its options tells whether a journal is a legal one of the run. The
+/// other commands aren't built yet, and no more is a run whose script kills a partition.
 ///
 /// A run stores each window's rows in one commit and then prints them all, a line for each row. Its
 /// status is 0, or else that of the first thing that stopped it: 1 for words that are no command, or that
 /// ask for what isn't built, 2 for a file that can't be read, 3 for one that isn't there, 4 for one too long,
-/// 5 for an application, 6 for a line of an input and 7 for a line of a script that is refused, 9 for the
-/// sink's store, 12 for the output, 13 for want of memory, and 19 for a bag or a state that is too large. A
-/// line of the error output then names it, as far as that output takes it, except for a fault of the output.
+/// 5 for an application, 6 for a line of an input, 7 for a line of a script and 16 for a line of a journal that is
+/// refused, 9 for the sink's store, 12 for the output, 13 for want of memory, and 19 for a bag or a state that is
+/// too large. A line of the error output then names it, as far as that output takes it, except for a fault of the output.
 pub fn apex_plain<F: Folder, K: Keeper, O: Out, E: Out>(
     alloc: Global,
     words: &[String],
@@ -143,6 +158,11 @@ pub fn apex_plain<F: Folder, K: Keeper, O: Out, E: Out>(
         (Rose (K.faults devices.keeper) (K.faults result.devices.keeper) → ⊥) →
         (Rose (O.faults out.old) (O.faults out.new) → ⊥) →
         IsComplete (IsLargeRun (by_files (F.told files.old)) (map string_bytes words.now)) result.end }
+
+    // Of files that the folder tells, an audit is done exactly for a legal journal, and refuses exactly the first line that
+    // is refused, unless a device fails or memory runs out.
+    ensures audit { IsTrue F.tells → AnswersAudits (F.told files.old) (map string_bytes words.now)
+        (Rose (F.faults files.old) (F.faults files.new) ⊎ Rose (O.faults out.old) (O.faults out.new)) result.end }
 
     ensures status { result.status ≡ status_after result.end }
     ensures said { IsTrue E.tells → HasSaid (line_after result.end)

@@ -34,6 +34,7 @@ fn refusal_status(refusal: &Refusal) -> u8
         Refusal::NoJson | Refusal::WrongShape { .. } | Refusal::BrokenRule { .. } => 5,
         Refusal::RefusedLine { .. } => 6,
         Refusal::RefusedCommand { .. } => 7,
+        Refusal::RefusedEntry { .. } => 16,
     }
 }
 
@@ -67,7 +68,12 @@ fn say_refusal<E: Out>(err: &mut E, refusal: &Refusal) -> Result<(), Failed>
         Refusal::WrongShape { place } => say_name(err, "apex: application refused: Shape ", place),
         Refusal::BrokenRule { code, place } => say_rule(err, *code, place),
         Refusal::RefusedLine { file, line, cause } => say_line(err, file, *line, *cause),
-        Refusal::RefusedCommand { line, why } => say_command(err, *line, *why),
+        Refusal::RefusedCommand { line, why } => {
+            say_numbered(err, "apex: script line ", *line, " refused: S", *why)
+        }
+        Refusal::RefusedEntry { line, why } => {
+            say_numbered(err, "apex: journal line ", *line, " refused: J", *why)
+        }
     }
 }
 
@@ -95,17 +101,23 @@ fn say_rule<E: Out>(err: &mut E, code: u8, place: &Name) -> Result<(), Failed>
     ("apex: application refused: A", (code, place)).write_to(err)
 }
 
-/// Writes which line of the script was refused, and why.
-fn say_command<E: Out>(err: &mut E, line: u64, why: u8) -> Result<(), Failed>
+/// Writes which line of a script or a journal was refused, the number of the reason, and LF.
+fn say_numbered<E: Out>(
+    err: &mut E,
+    what: &str,
+    line: u64,
+    refused: &str,
+    why: u8,
+) -> Result<(), Failed>
     ensures written { HasWritten E.tells
-        (codes "apex: script line " ++ (decimal line ++ (codes " refused: S" ++ (decimal why ++ codes "\n"))))
+        (what.now ++ (decimal line ++ (refused.now ++ (decimal why ++ codes "\n"))))
         result (E.written err.old) (E.written err.new) }
     ensures later { E.faults err.old ≤ E.faults err.new }
     ensures cause { IsErr result → Rose (E.faults err.old) (E.faults err.new) }
 {
     let (mut first, mut second) = (Buffer::new(), Buffer::new());
     let (line, why) = (first.format(line), second.format(why));
-    ("apex: script line ", (line, (" refused: S", (why, "\n")))).write_to(err)
+    (what, (line, (refused, (why, "\n")))).write_to(err)
 }
 
 fn blank_before(place: &str) -> &'static str

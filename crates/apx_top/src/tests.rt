@@ -331,7 +331,7 @@ fn two_inputs_are_enriched_or_matched(rt: HostRuntime) -> Result<(), Fail> {
 
 #[test]
 fn other_words_are_no_command(rt: HostRuntime) -> Result<(), Fail> {
-    let rows: [&[&str]; 12] = [
+    let rows: [&[&str]; 11] = [
         &[],
         &["sim"],
         &["sim", "app.json", "more"],
@@ -344,7 +344,6 @@ fn other_words_are_no_command(rt: HostRuntime) -> Result<(), Fail> {
         &["gen", "7", "1000"],
         &["group", "app.json", "groups"],
         &["trace", "app.json"],
-        &["audit", "app.json", "journal"],
     ];
     for given in rows {
         let left = run(

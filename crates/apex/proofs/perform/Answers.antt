@@ -1,3 +1,5 @@
+use Rattle.std.proofs.Common.{inl, inr, arith}
+use Rattle.apx_top.proofs.Auditing.{answers-weaker}
 use Rattle.apex.proofs.perform.Goals as goal
 
 -- src/main.rt:76:1
@@ -15,3 +17,9 @@ returns-clause-heard g c =
         ended = heard.3;
       },
     )
+
+pub returns-clause-audit : goal.returns-clause-audit
+returns-clause-audit g c = λ t.
+    answers-weaker _ _ _ _ _
+    (λ failed. elim failed [ inl folder ↦ inl folder | inr output ↦ inr (omega (arith, output)) ])
+    (c.apex_plain-status.ensures.audit t)

@@ -1,6 +1,5 @@
 use Rattle.std.proofs.lemmas.Result.{err_from_is_err_and}
 use Rattle.std.specs.Prelude.{option_map}
-use Rattle.apx_cause.specs.Cause.{Rose}
 use Rattle.apx_load.proofs.Heard.{heard_weaker}
 use Rattle.apx_load.proofs.Scripting.{script_first, scripted_of}
 use Rattle.apx_load.proofs.jobs.scripted.Goals as goal

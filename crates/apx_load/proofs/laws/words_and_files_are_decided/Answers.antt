@@ -1,3 +1,5 @@
+use Rattle.apx_load.specs.Refusals.{by_files}
+use Rattle.apx_load.proofs.Auditing.{audited-of-legal}
 use Rattle.apx_load.proofs.Unique.{accepted-or-refused, never-neither, refusal-unique}
 use Rattle.apx_load.proofs.laws.words_and_files_are_decided.Goals as goal
 
@@ -9,3 +11,6 @@ returns-clause-neither c = λ told words none unrefused. never-neither told word
 
 pub returns-clause-one : goal.returns-clause-one
 returns-clause-one c = λ told words refusal other p q. refusal-unique told words refusal other p q
+
+pub returns-clause-legal : goal.returns-clause-legal
+returns-clause-legal c = λ told app journal script settings es is. audited-of-legal (by_files told) app journal script settings es is

@@ -1,6 +1,5 @@
-use Rattle.std.proofs.Common.{◌≡◌, [], ◌∷◌, inl, refl, ap}
+use Rattle.std.proofs.Common.{[], ◌∷◌, inl, refl, ap}
 use Rattle.std.specs.Prelude.{Ok, Err}
-use Rattle.apx_device.specs.declared.folder.ReadRefusal.{ReadRefusal}
 use Rattle.apx_device.specs.Folder.{answer_of}
 use Rattle.apx_load.proofs.Stopping.{read_stop}
 use Rattle.apx_load.proofs.load.read_file.Goals as goal

@@ -1,4 +1,4 @@
-use Rattle.std.proofs.Common.{◌∙◌, ◌++◌, inl, inr, arith}
+use Rattle.std.proofs.Common.{◌++◌, inr}
 use Rattle.std.proofs.lemmas.Result.{err_from_is_err_and}
 use Rattle.apx_load.specs.Refusals.{by_answers, IsInputsRefusal, IsRunRefusal}
 use Rattle.apx_load.proofs.Heard.{heard_then}

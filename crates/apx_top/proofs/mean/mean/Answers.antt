@@ -4,7 +4,7 @@ use Rattle.apx_load.specs.Refusals.{by_answers}
 use Rattle.apx_load.proofs.Heard.{heard_weaker}
 use Rattle.apx_top.specs.Changes.{output_change}
 use Rattle.apx_top.specs.Plain.{of_pass}
-use Rattle.apx_top.proofs.Acting.{told-nothing, told-large, told-some, told-all}
+use Rattle.apx_top.proofs.Acting.{told-nothing, told-large}
 use Rattle.apx_top.proofs.mean.mean.Goals as goal
 
 pub returns-in_err-job-clause-heard : goal.returns-in_err-job-clause-heard

@@ -1,4 +1,5 @@
 use Rattle.apx_top.specs.Changes.{call_of}
+use Rattle.apx_top.proofs.Auditing.{answers-audits}
 use Rattle.apx_top.proofs.Acting.{words-refused, refused-words, refused-of, complete-of}
 use Rattle.apx_top.proofs.plain.apex_plain.Goals as goal
 
@@ -16,3 +17,8 @@ pub returns-clause-complete : goal.returns-clause-complete
 returns-clause-complete g c = λ t are folder store output.
     let h = c.act-end.ensures.heard in
     complete-of _ (call_of h.0 _ _ _) _ (h.2 t) c.act-end.result h.3 are folder store output
+
+pub returns-clause-audit : goal.returns-clause-audit
+returns-clause-audit g c = λ t.
+    let h = c.act-end.ensures.heard in
+    answers-audits _ (call_of h.0 _ _ _) _ (h.2 t) c.act-end.result h.3

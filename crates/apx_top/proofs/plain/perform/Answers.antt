@@ -1,7 +1,6 @@
 use Rattle.std.proofs.Common.{refl}
 use Rattle.apx_load.proofs.Heard.{heard_weaker}
-use Rattle.apx_top.specs.Changes.{call_of}
-use Rattle.apx_top.proofs.Acting.{unbuilt_heard, told_by}
+use Rattle.apx_top.proofs.Acting.{unbuilt_heard, audit_by, told_by}
 use Rattle.apx_top.proofs.plain.perform.Goals as goal
 
 pub returns-in-Sim-clause-heard : goal.returns-in-Sim-clause-heard
@@ -23,4 +22,7 @@ pub returns-in-Trace-clause-heard : goal.returns-in-Trace-clause-heard
 returns-in-Trace-clause-heard g c = unbuilt_heard g.F.Folder.tells (g.F.Folder.told c.args.files.now) (g.F.Folder.heard c.args.files.now) _ _ _ refl refl c.args.command.now _ c.in-Trace.is tt
 
 pub returns-in-Audit-clause-heard : goal.returns-in-Audit-clause-heard
-returns-in-Audit-clause-heard g c = unbuilt_heard g.F.Folder.tells (g.F.Folder.told c.args.files.now) (g.F.Folder.heard c.args.files.now) _ _ _ refl refl c.args.command.now _ c.in-Audit.is tt
+returns-in-Audit-clause-heard g c =
+    heard_weaker g.F.Folder.tells (g.F.Folder.told c.args.files.now) (g.F.Folder.heard c.args.files.now) (g.F.Folder.heard c.audit.new.files) _ _
+    (λ answers told. audit_by c.text-in-Audit.result.now c.in-Audit.app c.text-in-Audit-2.result.now c.in-Audit.journal c.as_ref-in-Audit.result c.in-Audit.script c.in-Audit.settings c.args.command.now _ c.audit.result c.text-in-Audit.ensures c.text-in-Audit-2.ensures c.as_ref-in-Audit.ensures.value c.in-Audit.is refl told)
+    c.audit.ensures.heard

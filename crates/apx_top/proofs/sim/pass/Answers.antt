@@ -1,4 +1,4 @@
-use Rattle.std.proofs.Common.{◌≡◌, ◌≤◌, ◌∙◌, ap, sym, max, length, take, subst, IsTrue}
+use Rattle.std.proofs.Common.{◌≤◌, ◌∙◌, ap, sym, max, length, take, subst, IsTrue}
 use Rattle.apx_pass.specs.Texts.{windows_text}
 use Rattle.apx_pass.specs.Job.{Settings}
 use Rattle.apx_top.specs.Sent.{HasWritten}

@@ -1,7 +1,7 @@
 use Rattle.std.proofs.lemmas.Result.{err_from_is_err_and}
 use Rattle.std.specs.Prelude.{option_map}
 use Rattle.apx_load.proofs.Heard.{heard_weaker}
-use Rattle.apx_top.proofs.Runnable.{job_first, run_of, not_run}
+use Rattle.apx_top.proofs.Runnable.{job_first}
 use Rattle.apx_top.proofs.sim.runnable.Goals as goal
 
 pub returns-in_err-job-clause-heard : goal.returns-in_err-job-clause-heard
