@@ -1,0 +1,9 @@
+pub mod Planned
+pub mod Graphs
+pub mod Sources
+pub mod Claiming
+pub mod Bearing
+pub mod Working
+pub mod Going
+pub mod Changes
+pub mod Bringing
