@@ -1,17 +1,17 @@
 -- What is kept fits the machine at the start of a run that begins from nothing.
-use Rattle.std.proofs.Common.{◌≡◌, ℕ, zero, suc, ◌+◌, ◌<◌, inl, inr, List, [], ◌∷◌, ◌++◌, length, length-append, map, replicate, get_or, refl, sym, ap, subst, ◌∙◌, arith, Option, None, Some, IsTrue}
+use Rattle.std.proofs.Common.{◌≡◌, ℕ, zero, suc, ◌+◌, ◌<◌, inl, inr, List, [], ◌∷◌, ◌++◌, length, length-append, replicate, get_or, refl, sym, ap, subst, ◌∙◌, arith, Option}
 use Rattle.std.proofs.Math.ListN.{length-replicate, get_or-map, get_or-append}
 use Rattle.std.proofs.Math.Seq.{get_or-append_seam}
 use Rattle.std.proofs.lemmas.Bool.{cases_lt}
 use Rattle.apx_device.specs.declared.vault.SaveId.{SaveId}
-use Rattle.apx_history.specs.Plan.{Operator, Plan, has, operator, no_operator}
-use Rattle.apx_history.specs.State.{Slot, Oper, State, fresh, oper, slot, IsPart}
+use Rattle.apx_history.specs.Plan.{Operator, Plan, operator, no_operator}
+use Rattle.apx_history.specs.State.{Slot, Oper, fresh, oper, slot, IsPart}
 use Rattle.apx_history.specs.Journals.{beginning}
 use Rattle.apx_history.proofs.Renewed.{fresh_at}
 use Rattle.apx_pass.specs.Pass.{at_start, progress_after}
 use Rattle.apx_pass.specs.Job.{Job}
 use Rattle.apx_part.specs.Fed.{plan_in}
-use Rattle.apx_held.specs.Holding.{Holding, holding, no_holding, empty_list}
+use Rattle.apx_held.specs.Holding.{Holding, holding, no_holding}
 use Rattle.apx_held.specs.Partition.{progress_at}
 use Rattle.apx_held.specs.Fits.{Telling, FitsPart, FitsVault, Fits}
 use Rattle.apx_held.specs.Begun.{first_holding, AreFirst}

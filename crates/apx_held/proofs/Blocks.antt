@@ -7,7 +7,7 @@ use Rattle.apx_tuple.specs.declared.tuple.Tuple.{Tuple}
 use Rattle.apx_list.specs.declared.block.Block.{Block}
 use Rattle.apx_list.specs.declared.plan.CutPlan.{CutPlan}
 use Rattle.apx_list.specs.Cut.{numbered, blocks_of}
-use Rattle.apx_list.specs.Listed.{Listed, before, AreUpTo, AreAbove, IsPurged, IsNext, with_block}
+use Rattle.apx_list.specs.Listed.{Listed, before, AreUpTo, AreAbove, IsPurged, with_block}
 use Rattle.apx_list.specs.Window.{SpellRest, SpellWindow}
 use Rattle.apx_pass.specs.Job.{Job}
 use Rattle.apx_held.specs.declared.held.Unnamed.{Unnamed}

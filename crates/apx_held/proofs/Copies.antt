@@ -1,5 +1,5 @@
 -- The blocks of a window, read one after the other from a list whose blocks are in order.
-use Rattle.std.proofs.Common.{◌≡◌, ℕ, zero, suc, ◌+◌, ◌-◌, ◌<◌, ◌≤◌, ◌⊎◌, inl, inr, Bool, true, false, cond, ltb, ◌==◌, List, [], ◌∷◌, ◌++◌, length, drop, filter, refl, sym, ap, subst, ◌∙◌, arith, Option, None, Some, Err, IsTrue, slice_get}
+use Rattle.std.proofs.Common.{◌≡◌, ℕ, zero, suc, ◌+◌, ◌-◌, ◌<◌, ◌≤◌, ◌⊎◌, inl, inr, Bool, true, false, cond, ltb, ◌==◌, List, [], ◌∷◌, ◌++◌, length, drop, refl, sym, ap, subst, ◌∙◌, arith, None, Some, Err, IsTrue, slice_get}
 use Rattle.std.proofs.lemmas.Option.{slice_get_past}
 use Rattle.std.proofs.lemmas.Bool.{lt-ltb, le-ltb, cases_lt, eq-eqb, ne_eqb}
 use Rattle.apx_tuple.specs.declared.tuple.Tuple.{Tuple}
@@ -10,7 +10,7 @@ use Rattle.apx_list.specs.Listed.{Listed, before, next_number, window_after, ind
 use Rattle.apx_list.specs.declared.fault.ListFault.{ListFault}
 use Rattle.apx_list.specs.declared.fault.ListFault.TheVariants.{Fault, Damaged, Memory}
 use Rattle.apx_list.specs.Reads.{IsRead, IsDamaged, GivesBlock}
-use Rattle.apx_list.specs.Window.{SpellRest, SpellWindow}
+use Rattle.apx_list.specs.Window.{SpellRest}
 use Rattle.apx_held.specs.declared.held.Unnamed.{Unnamed}
 use Rattle.apx_held.specs.Lent.{of_window, IsLent, IsOfList}
 

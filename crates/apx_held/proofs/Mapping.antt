@@ -1,7 +1,6 @@
 -- What is kept goes on fitting the machine when an event changes all partitions: Commit, and Kill, where the partitions of a
 -- tree go back one after the other.
-use Rattle.std.proofs.Common.{◌≡◌, ℕ, zero, suc, ◌+◌, ◌<◌, ◌≤◌, ◌⊎◌, inl, inr, Bool, true, false, cond, ◌&&◌, nat_le, List, [], ◌∷◌, length, get_or, refl, sym, ap, subst, ◌∙◌, arith, Option, None, Some, IsTrue, IsSome}
-use Rattle.std.specs.Prelude.{IfSome}
+use Rattle.std.proofs.Common.{◌≡◌, ℕ, ◌+◌, ◌<◌, ◌≤◌, inl, inr, Bool, true, false, cond, nat_le, List, [], length, get_or, refl, sym, ap, subst, ◌∙◌, arith, Option, Some, IsTrue}
 use Rattle.std.specs.List.{filter}
 use Rattle.std.proofs.lemmas.Bool.{leb-true}
 use Rattle.apx_device.specs.declared.vault.SaveId.{SaveId}
@@ -9,14 +8,14 @@ use Rattle.apx_history.specs.Plan.{Plan, has}
 use Rattle.apx_history.specs.State.{Slot, State, oper, slot, IsPart, map_slots}
 use Rattle.apx_history.specs.Enabled.{in_tree}
 use Rattle.apx_history.specs.Effects.{trimmed, back, back_in, meet}
-use Rattle.apx_history.proofs.Tests.{both, test, alike, has-filter}
+use Rattle.apx_history.proofs.Tests.{both, alike, has-filter}
 use Rattle.apx_history.proofs.Slots.{map_ops, map_boundary, map_parts, map_was, slot_map}
 use Rattle.apx_tuple.specs.declared.progress.Progress.{Progress}
 use Rattle.apx_pass.specs.Job.{Job}
 use Rattle.apx_part.specs.Fed.{plan_in}
 use Rattle.apx_held.specs.Holding.{Holding, holding, put_holding, IsHeld, empty_list}
 use Rattle.apx_held.specs.Partition.{progress_at}
-use Rattle.apx_held.specs.Fits.{Telling, FitsList, FitsPart, save_id, IsSaved, FitsVault, Fits}
+use Rattle.apx_held.specs.Fits.{Telling, FitsPart, save_id, IsSaved, FitsVault, Fits}
 use Rattle.apx_held.specs.Partly.{IsBefore, Partly}
 use Rattle.apx_held.proofs.Puts.{held_ops, held_parts, held_put}
 use Rattle.apx_held.proofs.Fitting.{list_none}

@@ -2,15 +2,14 @@
 use Rattle.std.proofs.Common.{◌≡◌, ℕ, ◌<◌, ◌≤◌, inl, Bool, List, [], Option, unwrap_or, sym, ap, ◌∙◌, arith}
 use Rattle.apx_device.specs.declared.vault.SaveId.{SaveId}
 use Rattle.apx_device.specs.Vault.{Entry, entry_at, bytes_at}
-use Rattle.apx_history.specs.Plan.{Plan, has}
+use Rattle.apx_history.specs.Plan.{Plan}
 use Rattle.apx_history.specs.State.{State, slot, oper, IsPart}
 use Rattle.apx_history.specs.Enabled.{limit}
 use Rattle.apx_history.specs.Kept.{Kept}
 use Rattle.apx_history.proofs.Lines.{limit-start}
-use Rattle.apx_tuple.specs.declared.progress.Progress.{Progress}
 use Rattle.apx_pass.specs.Pass.{at_start}
 use Rattle.apx_pass.specs.Job.{Job}
-use Rattle.apx_statebytes.specs.Spelling.{second_spelling, Spells, IsProgress}
+use Rattle.apx_statebytes.specs.Spelling.{Spells}
 use Rattle.apx_held.specs.Partition.{progress_at}
 use Rattle.apx_held.specs.Fits.{save_id, IsSaved, AreSaved}
 use Rattle.apx_held.proofs.Begun.{carries_nothing}

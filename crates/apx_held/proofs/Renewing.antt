@@ -1,16 +1,13 @@
 -- What is kept goes on fitting the machine at a repartition.
-use Rattle.std.proofs.Common.{◌≡◌, ℕ, zero, suc, ◌+◌, ◌<◌, inl, inr, Bool, true, false, ◌||◌, ◌==◌, List, [], ◌∷◌, length, replicate, get_or, set, refl, sym, ap, subst, ◌∙◌, arith, Option, None, Some, IsTrue}
+use Rattle.std.proofs.Common.{◌≡◌, ℕ, ◌<◌, inl, inr, List, [], length, replicate, get_or, set, sym, ap, subst, ◌∙◌, arith, Option, IsTrue}
 use Rattle.std.proofs.Math.ListN.{length-set, length-replicate}
 use Rattle.std.proofs.lemmas.List.{get_or-set_same, get_or-set_other}
-use Rattle.std.proofs.lemmas.Bool.Decides.{nat_tests}
 use Rattle.apx_device.specs.declared.vault.SaveId.{SaveId}
-use Rattle.apx_history.specs.Plan.{has}
 use Rattle.apx_history.specs.State.{Slot, Oper, State, fresh, no_oper, oper, slot, IsPart}
 use Rattle.apx_history.specs.Effects.{meet, split}
 use Rattle.apx_history.proofs.Tests.{alike}
 use Rattle.apx_history.proofs.Renewed.{fresh_at}
 use Rattle.apx_pass.specs.Job.{Job}
-use Rattle.apx_part.specs.Fed.{plan_in}
 use Rattle.apx_held.specs.Holding.{Holding, holding, no_holding}
 use Rattle.apx_held.proofs.Fitting.{has_one}
 use Rattle.apx_held.specs.Fits.{Telling, FitsPart, save_id, IsSaved, FitsVault, Fits}

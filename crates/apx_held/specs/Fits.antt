@@ -3,7 +3,7 @@
 --     FitsPart    what is kept for one partition
 --     FitsVault   what the vault has of one partition
 --     Fits        of all partitions
-use Rattle.std.specs.Prelude.{◌≡◌, ℕ, ◌+◌, ◌<◌, ◌≤◌, Bool, true, List, [], length, get_or, Option, None, Some, IsTrue, IsSome, IfSome}
+use Rattle.std.specs.Prelude.{◌≡◌, ℕ, ◌<◌, ◌≤◌, Bool, true, List, [], length, get_or, Option, None, Some, IsTrue, IsSome, IfSome}
 use Rattle.apx_device.specs.declared.vault.SaveId.{SaveId}
 use Rattle.apx_history.specs.Plan.{has}
 use Rattle.apx_history.specs.State.{Slot, State, oper, slot, IsPart}

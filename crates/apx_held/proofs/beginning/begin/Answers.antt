@@ -1,4 +1,4 @@
-use Rattle.std.proofs.Common.{◌≡◌, ℕ, ◌<◌, ◌+◌, ◌∙◌, refl, List, [], Err, length, replicate, get_or, ap, sym, arith}
+use Rattle.std.proofs.Common.{ℕ, ◌∙◌, refl, List, [], Err, length, replicate, get_or, ap, arith}
 use Rattle.std.proofs.lemmas.Result.{err_from_is_err_and}
 use Rattle.apx_history.specs.State.{oper}
 use Rattle.apx_held.specs.Begun.{first_holding}

@@ -1,4 +1,4 @@
-use Rattle.std.proofs.Common.{◌≡◌, ℕ, Err, refl, ap, ◌∙◌, replicate, arith}
+use Rattle.std.proofs.Common.{ℕ, Err, refl, ap, ◌∙◌, replicate, arith}
 use Rattle.std.proofs.lemmas.Result.{err_from_is_err_and}
 use Rattle.apx_held.specs.Begun.{first_holding}
 use Rattle.apx_held.proofs.Causes.{cause_ok, cause_err, cause_memory}

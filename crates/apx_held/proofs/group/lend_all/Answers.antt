@@ -1,4 +1,4 @@
-use Rattle.std.proofs.Common.{◌≡◌, List, map, get_or, ap, subst, ◌∙◌, arith}
+use Rattle.std.proofs.Common.{List, map, get_or, subst, ◌∙◌, arith}
 use Rattle.std.proofs.lemmas.Result.{err_from_is_err_and}
 use Rattle.apx_held.specs.Holding.{Holding, no_holding}
 use Rattle.apx_held.specs.Lent.{IsLent, IsUnlent}

@@ -1,4 +1,4 @@
-use Rattle.std.proofs.Common.{◌≡◌, sym, subst}
+use Rattle.std.proofs.Common.{sym, subst}
 use Rattle.apx_history.specs.Plan.{Plan}
 use Rattle.apx_history.specs.Kept.{IsPlan}
 use Rattle.apx_history.proofs.Instances.{small_is}

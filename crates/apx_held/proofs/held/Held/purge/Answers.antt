@@ -1,5 +1,4 @@
 use Rattle.std.proofs.Common.{ap}
-use Rattle.apx_held.specs.Holding.{Holding}
 use Rattle.apx_held.proofs.Blocks.{purged_list}
 use Rattle.apx_held.proofs.held.Held.purge.Goals as goal
 
