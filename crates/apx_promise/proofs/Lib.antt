@@ -1,0 +1,9 @@
+pub mod Storing
+pub mod Reading
+pub mod Owning
+pub mod Going
+pub mod Performing
+pub mod Picking
+pub mod Saving
+pub mod Saved
+pub mod Examples

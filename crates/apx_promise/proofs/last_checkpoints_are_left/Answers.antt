@@ -1,0 +1,9 @@
+use Rattle.apx_promise.proofs.Saving.{last-saves-are-exact}
+use Rattle.apx_promise.proofs.Saved.{last-are-saved}
+use Rattle.apx_promise.proofs.last_checkpoints_are_left.Goals as goal
+
+pub returns-clause-listed : goal.returns-clause-listed
+returns-clause-listed c = last-saves-are-exact
+
+pub returns-clause-saved : goal.returns-clause-saved
+returns-clause-saved c = last-are-saved

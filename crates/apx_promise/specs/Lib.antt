@@ -1,0 +1,4 @@
+pub mod Histories
+pub mod Orders
+pub mod Checkpoints
+pub mod Laws

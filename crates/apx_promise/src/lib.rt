@@ -1,0 +1,53 @@
+//! What is promised of the history of a run: laws that hold for every plan, every start and every history.
+//!
+//! `apx_history` says what a history is and what every state keeps. Here stands what follows for a whole run: what it has
+//! stored, that whatever is read is there, that it goes on until it ends, what it has done by then, which history an order
+//! picks, and which checkpoints are there at the end. `specs/Histories.antt`, `specs/Orders.antt` and
+//! `specs/Checkpoints.antt` say each in a few lines.
+//!
+//! The functions do nothing: each states a law in its contract.
+#![tactic(auto)]
+
+ghost use Rattle.apx_promise.specs.Laws.{AllStoreInOrder, AllFindWhatTheyRead, AllEndWhatTheyBegan, AllGoOn, EndedAreDone, PicksAreHistories, SomeIsPicked, PicksAreFronts, OneIsPicked, LastSavesAreExact, LastAreSaved};
+
+/// The windows are stored one after the other, each once, from the first that the store hadn't yet.
+pub fn windows_are_stored_in_order()
+    ensures { AllStoreInOrder }
+{}
+
+/// Whatever is read is there: no block that may be read again is dropped, after any front of a history, and where a partition
+/// begins a window, all that it reads have it.
+pub fn blocks_are_there()
+    ensures { AllFindWhatTheyRead }
+{}
+
+/// Whoever stores, finishes or kills what a partition has open has begun it, and nothing has closed the partition since.
+pub fn workers_end_what_they_began()
+    ensures { AllEndWhatTheyBegan }
+{}
+
+/// A run that hasn't stopped goes on: it has a choice, and each choice makes a longer history.
+pub fn runs_go_on()
+    ensures { AllGoOn }
+{}
+
+/// A run that has ended has stored each window once, and has performed each line of the script once, by its own event.
+pub fn ended_runs_are_done()
+    ensures { EndedAreDone }
+{}
+
+/// The numbers of an order pick exactly one history that ends. Each of its entries is by worker 0, and it begins with whatever
+/// the same numbers pick.
+pub fn orders_pick_one_history()
+    ensures histories { PicksAreHistories }
+    ensures some { SomeIsPicked }
+    ensures fronts { PicksAreFronts }
+    ensures one { OneIsPicked }
+{}
+
+/// The checkpoints that are there when a run has ended are those in the list of the last ones: a run must have saved each of
+/// them, and no other may be left.
+pub fn last_checkpoints_are_left()
+    ensures listed { LastSavesAreExact }
+    ensures saved { LastAreSaved }
+{}
