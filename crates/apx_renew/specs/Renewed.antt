@@ -1,5 +1,5 @@
 -- What an operator goes on with behind a boundary, and what the checkpoint store has of it.
-use Rattle.std.specs.Prelude.{◌≡◌, ℕ, ◌<◌, Bool, List, [], length, get_or, Option}
+use Rattle.std.specs.Prelude.{◌≡◌, ℕ, ◌<◌, Bool, List, length, get_or, Option}
 use Rattle.apx_device.specs.declared.vault.SaveId.{SaveId}
 use Rattle.apx_history.specs.State.{fresh}
 use Rattle.apx_pass.specs.Job.{Job}

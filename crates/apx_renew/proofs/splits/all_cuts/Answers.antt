@@ -1,4 +1,4 @@
-use Rattle.std.proofs.Common.{◌≡◌, ℕ, ap, ◌∙◌, arith}
+use Rattle.std.proofs.Common.{ℕ, ap, ◌∙◌, arith}
 use Rattle.apx_rules.specs.Parts.{of_parts}
 use Rattle.apx_shares.specs.Carried.{cut_progress}
 use Rattle.apx_tuple.specs.declared.progress.Progress.{Progress}
