@@ -1,0 +1,11 @@
+use Rattle.std.proofs.Common.{◌≡◌, IsTrue}
+use Rattle.apx_held.specs.Partly.{Partly}
+use Rattle.apx_reset.proofs.kills.reset_group.Given as goal
+
+abbrev pub invariant-loop-part : goal.invariant-loop-part
+invariant-loop-part g l = record {
+  partly : Partly g.J.Naming.run.job g.J.Naming.run.told g.J.Naming.run.plan l.fn.stores.course.machine l.line l.op l.part l.contents;
+  course : l.stores.course ≡ l.fn.stores.course;
+  held : IsTrue g.V.Vault.tells → g.V.Vault.held l.stores.vault ≡ g.V.Vault.held l.fn.stores.vault;
+  keeper : l.stores.keeper ≡ l.fn.stores.keeper;
+}
