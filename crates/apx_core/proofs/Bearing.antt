@@ -1,24 +1,28 @@
--- A claim whose partition has its window opened for its worker: the worker may end the window, and of the sink store it.
-use Rattle.std.proofs.Common.{◌≡◌, ℕ, ◌<◌, inl, inr, true, Option, None, Some, IsTrue, refl, sym, ap, subst, ◌∙◌}
+-- A claim whose partition has its window open for its worker: the worker may end the window, and of the sink store it.
+use Rattle.std.proofs.Common.{◌≡◌, ℕ, ◌<◌, inl, inr, true, false, ◌&&◌, ◌==◌, Option, None, Some, IsTrue, refl, sym, ap, subst, ◌∙◌}
 use Rattle.std.proofs.lemmas.Bool.{cases_lt, eq-eqb}
 use Rattle.std.proofs.lemmas.List.{get_or_past}
-use Rattle.apx_history.specs.declared.Event.TheVariants.{Write, Finish}
-use Rattle.apx_history.specs.Plan.{Plan}
+use Rattle.apx_history.specs.declared.Event.TheVariants.{Write, Finish, Kill}
+use Rattle.apx_history.specs.declared.Act.{Act}
+use Rattle.apx_history.specs.declared.Act.TheVariants.{Fails, Splits}
+use Rattle.apx_history.specs.Plan.{Plan, line, fails_part}
 use Rattle.apx_history.specs.State.{Slot, State, fresh, oper, parts, slot, open_worker}
-use Rattle.apx_history.specs.Journals.{owed, bears}
+use Rattle.apx_history.specs.Journals.{owed, owed_act, bears}
 use Rattle.apx_history.specs.Conditions.{CanWrite}
 use Rattle.apx_history.specs.Kept.{IsPlan, Kept}
+use Rattle.apx_history.proofs.Conditions.{equal_at}
 use Rattle.apx_history.proofs.Frames.{sink_part}
+use Rattle.apx_history.proofs.Tests.{both}
 use Rattle.apx_pass.specs.Graph.{Sink, node_at, is_sink}
 use Rattle.apx_pass.specs.Pass.{rows_at, sink_of}
 use Rattle.apx_job.specs.Job.{plan_of}
 use Rattle.apx_dag.specs.Valid.{IsGraph}
 use Rattle.apx_part.specs.declared.window.Done.{Done}
 use Rattle.apx_course.specs.Run.{Run}
-use Rattle.apx_core.specs.Claim.{Claimed, IsOpenFor, IsWork}
+use Rattle.apx_core.specs.Claim.{Claimed, IsOpenFor, TakesClaim, IsWork}
 use Rattle.apx_core.proofs.Graphs.{sink_is}
 
--- what is opened is there
+-- what is open is there
 open_there : (m : State) (o i : ℕ) (v : ℕ × ℕ) → (slot m o i).opened ≡ Some v → i < parts m o
 open_there m o i v opened = elim (cases_lt i (parts m o)) [
   | inl lt ↦ lt
@@ -54,3 +58,16 @@ work_at run c done o i w eo ei ew work =
     subst (λ (k : ℕ). IsWork run (record { op = k; part = i; window = w; worker = c.worker; state = c.state; left = c.left; right = c.right }) done) (sym eo)
     (subst (λ (k : ℕ). IsWork run (record { op = c.op; part = k; window = w; worker = c.worker; state = c.state; left = c.left; right = c.right }) done) (sym ei)
     (subst (λ (k : ℕ). IsWork run (record { op = c.op; part = c.part; window = k; worker = c.worker; state = c.state; left = c.left; right = c.right }) done) (sym ew) work))
+
+-- who takes the claim of an open partition may kill it, and anybody a closed one
+pub kill_bears : (plan : Plan) (m : State) (l u : ℕ) (claim : Option Claimed) → TakesClaim plan m l u claim → bears (owed plan m (Kill l)) u ≡ true
+kill_bears plan m l u None takes = ap (λ (x : Option ℕ). bears x u) takes.none
+kill_bears plan m l u (Some c) takes = by (line plan l).op (line plan l).act takes.taken.0
+  where
+    by : (o : ℕ) (a : Act) → (o == c.op && fails_part c.part a) ≡ true → bears (owed_act m o a) u ≡ true
+    by o (Splits count) h = let b = both (o == c.op) false h in absurd (let e : false ≡ true = b.1 in cc)
+    by o (Fails point part) h =
+        let b = both (o == c.op) (part == c.part) h in
+        subst (λ (p : ℕ). bears (open_worker (slot m p part).opened) u ≡ true) (sym (equal_at o c.op b.0))
+        (subst (λ (i : ℕ). bears (open_worker (slot m c.op i).opened) u ≡ true) (sym (equal_at part c.part b.1))
+        (ap (λ (x : Option (ℕ × ℕ)). bears (open_worker x) u) takes.taken.1 ∙ eq-eqb c.worker u takes.taken.2))

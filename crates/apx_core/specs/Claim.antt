@@ -1,9 +1,12 @@
 -- What contracts see of a claim, and what is so of each.
-use Rattle.std.specs.Prelude.{◌≡◌, ℕ, ◌-◌, ◌<◌, ◌≤◌, List, Option, None, Some, length, IsTrue, IfSome}
+use Rattle.std.specs.Prelude.{◌≡◌, ℕ, ◌-◌, ◌<◌, ◌≤◌, true, List, Option, None, Some, length, IsTrue, IfSome, IfNone}
 use Rattle.apx_tuple.specs.declared.progress.Progress.{Progress}
 use Rattle.apx_tuple.specs.declared.tuple.Tuple.{Tuple}
 use Rattle.apx_tuple.specs.Progress.{progress_size}
+use Rattle.apx_history.specs.declared.Event.TheVariants.{Kill}
+use Rattle.apx_history.specs.Plan.{Plan, line, kills}
 use Rattle.apx_history.specs.State.{State, slot}
+use Rattle.apx_history.specs.Journals.{owed}
 use Rattle.apx_list.specs.declared.block.Block.{Block}
 use Rattle.apx_pass.specs.Graph.{node_at}
 use Rattle.apx_pass.specs.Pass.{windows}
@@ -65,6 +68,13 @@ worked c = record { op = c.op; part = c.part; window = c.window; worker = c.work
 -- the claim's partition has its window open, begun by its worker
 abbrev pub IsOpenFor : State → Claimed → Type 0
 IsOpenFor m c = (slot m c.op c.part).opened ≡ Some (c.window, c.worker)
+
+-- A kill takes the claim of the partition that its line names, where that has a window open: who kills is the worker of the claim.
+pub record TakesClaim (plan : Plan) (m : State) (l worker : ℕ) (claim : Option Claimed) : Type 0 where
+  -- a claim that is taken is that of the line's partition, which is open for the worker
+  pub taken : IfSome claim (λ c. (kills c.op c.part (line plan l) ≡ true) × IsOpenFor m c × (c.worker ≡ worker))
+  -- where none is taken, nobody has the partition open
+  pub none : IfNone claim (owed plan m (Kill l) ≡ None)
 
 -- What a claim's work makes. Where all devices tell, it is what the partition makes of the window in the one pass.
 pub record IsWork (run : Run) (c : Claimed) (done : Done) : Type 0 where

@@ -12,6 +12,7 @@ mod events;
 mod finishing;
 mod opening;
 mod ports;
+mod recovering;
 mod starting;
 
 pub use apx_course::{CoreFault, Naming, Stopped};

@@ -49,7 +49,7 @@ fn begun<F: Drop, J: Naming>(
 }
 
 /// How the windows of the run's job are cut into blocks.
-fn cuts_of<J: Naming>(job: &Arc<Job>) -> CutPlan
+pub(crate) fn cuts_of<J: Naming>(job: &Arc<Job>) -> CutPlan
     requires { job.now.value ≡ J.run.job }
     ensures plan { result ≡ plan_in J.run.job }
     ensures limits { IsCut result }
