@@ -6,4 +6,5 @@ pub mod Performing
 pub mod Picking
 pub mod Saving
 pub mod Saved
+pub mod Making
 pub mod Examples

@@ -5,10 +5,13 @@
 --     last_saves plan        all of them, in the order of their ids
 --     MustBeSaved plan m id  a state of the run has the checkpoint
 --     MayBeSaved plan c id   the checkpoint is one that may be there where window c is committed
+--     IsMadeBy plan m e id   an event makes the checkpoint
 use Rattle.std.specs.Prelude.{◌≡◌, ℕ, ◌<◌, ◌≤◌, ◌⊎◌, Bool, true, false, cond, ◌&&◌, ◌==◌, nat_lt, List, [], ◌++◌, length, map}
 use Rattle.std.specs.List.{list_any, flat_map, range_with_len}
 use Rattle.apx_device.specs.declared.vault.SaveId.{SaveId}
-use Rattle.apx_history.specs.Plan.{Plan, has, line, is_checkpoint, last_checkpoint, splits_op, boundary_at, number}
+use Rattle.apx_history.specs.declared.Event.{Event}
+use Rattle.apx_history.specs.declared.Event.TheVariants.{Save, Repartition}
+use Rattle.apx_history.specs.Plan.{Plan, has, line, is_checkpoint, last_checkpoint, splits_op, count_or, boundary_at, number}
 use Rattle.apx_history.specs.State.{State, oper, slot, IsPart, is_left}
 use Rattle.apx_history.specs.Enabled.{limit_in}
 
@@ -97,3 +100,11 @@ pub record MayBeSaved (plan : Plan) (c : ℕ) (id : SaveId) : Type 0 where
   pub positive : 0 < id.window
   -- nor below what is committed
   pub committed : c ≤ id.window
+
+-- The checkpoints that an event makes: a Save the one of its partition, a Repartition one for each new partition.
+abbrev pub IsMadeBy : Plan → State → Event → SaveId → Type 0
+IsMadeBy plan m (Save o i w) id = id ≡ record { op = o; boundary = (oper m o).boundary; part = i; window = w }
+IsMadeBy plan m (Repartition l) id =
+    (i : ℕ) × (i < count_or 0 (line plan l).act)
+    × (id ≡ record { op = (line plan l).op; boundary = (line plan l).window; part = i; window = (line plan l).window })
+IsMadeBy plan m e id = ⊥

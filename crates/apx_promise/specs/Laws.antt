@@ -1,16 +1,20 @@
 -- What is proved of every history, for every plan of a job and every start: the laws.
-use Rattle.std.specs.Prelude.{◌≡◌, ℕ, List, ◌++◌, Contains}
+use Rattle.std.specs.Prelude.{◌≡◌, ℕ, ◌≤◌, ◌⊎◌, true, List, ◌++◌, Contains}
 use Rattle.apx_device.specs.declared.vault.SaveId.{SaveId}
 use Rattle.apx_history.specs.declared.Entry.{Entry}
+use Rattle.apx_history.specs.declared.Event.{Event}
 use Rattle.apx_history.specs.declared.Event.TheVariants.{End}
 use Rattle.apx_history.specs.Plan.{Plan}
+use Rattle.apx_history.specs.State.{State}
+use Rattle.apx_history.specs.Enabled.{can}
+use Rattle.apx_history.specs.Effects.{next}
 use Rattle.apx_history.specs.Journals.{beginning}
 use Rattle.apx_history.specs.Choices.{IsPicked}
-use Rattle.apx_history.specs.Kept.{IsPlan, IsStart}
+use Rattle.apx_history.specs.Kept.{IsPlan, IsStart, Kept}
 use Rattle.apx_history.specs.Laws.{IsHistory}
 use Rattle.apx_promise.specs.Histories.{state_after, StoresInOrder, FindsWhatItReads, EndsWhatItBegan, GoesOn, EndsWith, IsDone}
 use Rattle.apx_promise.specs.Orders.{IsPickedToEnd, AllAreBy}
-use Rattle.apx_promise.specs.Checkpoints.{IsLastSave, last_saves, MustBeSaved, MayBeSaved}
+use Rattle.apx_promise.specs.Checkpoints.{IsLastSave, last_saves, MustBeSaved, MayBeSaved, IsMadeBy}
 
 -- the windows are stored one after the other, each once
 abbrev pub AllStoreInOrder : Type 0
@@ -62,3 +66,18 @@ abbrev pub LastAreSaved : Type 0
 LastAreSaved = (plan : Plan) (s c : ℕ) (es : List Entry) → IsHistory plan s c es → EndsWith End es → (id : SaveId) →
     (IsLastSave plan id → MustBeSaved plan (state_after plan s c es) id)
     × (MayBeSaved plan (state_after plan s c es).committed id → IsLastSave plan id)
+
+-- What must be there behind an event was there before it, or the event makes it; and it isn't below what is committed.
+abbrev pub SavesAreMade : Type 0
+SavesAreMade = (plan : Plan) (m : State) (worker : ℕ) (e : Event) → IsPlan plan → Kept plan m → can plan m e ≡ true → (id : SaveId) →
+    MustBeSaved plan (next plan m worker e) id →
+    (MustBeSaved plan m id ⊎ IsMadeBy plan m e id) × ((next plan m worker e).committed ≤ id.window)
+
+-- What an event makes may be there.
+abbrev pub MadeMayBe : Type 0
+MadeMayBe = (plan : Plan) (m : State) (worker : ℕ) (e : Event) → IsPlan plan → Kept plan m → can plan m e ≡ true → (id : SaveId) →
+    IsMadeBy plan m e id → MayBeSaved plan (next plan m worker e).committed id
+
+-- At first nothing must be there but what a run begins with.
+abbrev pub NoneAtFirst : Type 0
+NoneAtFirst = (plan : Plan) (s c : ℕ) (id : SaveId) → MustBeSaved plan (beginning plan s c) id → id.window ≡ c

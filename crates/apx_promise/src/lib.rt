@@ -8,7 +8,7 @@
 //! The functions do nothing: each states a law in its contract.
 #![tactic(auto)]
 
-ghost use Rattle.apx_promise.specs.Laws.{AllStoreInOrder, AllFindWhatTheyRead, AllEndWhatTheyBegan, AllGoOn, EndedAreDone, PicksAreHistories, SomeIsPicked, PicksAreFronts, OneIsPicked, LastSavesAreExact, LastAreSaved};
+ghost use Rattle.apx_promise.specs.Laws.{AllStoreInOrder, AllFindWhatTheyRead, AllEndWhatTheyBegan, AllGoOn, EndedAreDone, PicksAreHistories, SomeIsPicked, PicksAreFronts, OneIsPicked, LastSavesAreExact, LastAreSaved, SavesAreMade, MadeMayBe, NoneAtFirst};
 
 /// The windows are stored one after the other, each once, from the first that the store hadn't yet.
 pub fn windows_are_stored_in_order()
@@ -50,4 +50,12 @@ pub fn orders_pick_one_history()
 pub fn last_checkpoints_are_left()
     ensures listed { LastSavesAreExact }
     ensures saved { LastAreSaved }
+{}
+
+/// From event to event: what must be saved is what events have made, none of it below what is committed, and whatever an
+/// event makes may be there.
+pub fn checkpoints_are_made_by_events()
+    ensures must { SavesAreMade }
+    ensures may { MadeMayBe }
+    ensures first { NoneAtFirst }
 {}
