@@ -1,1 +1,3 @@
 mod Last
+mod Counting
+mod Reporting
