@@ -1,0 +1,9 @@
+pub mod Alike
+pub mod Arithmetic
+pub mod Bests
+pub mod Cuts
+pub mod Digesting
+pub mod Ends
+pub mod Splitting
+pub mod Sums
+pub mod Tellings

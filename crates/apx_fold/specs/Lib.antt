@@ -1,0 +1,5 @@
+pub mod Digests
+pub mod Folding
+pub mod Folds
+pub mod Ranked
+pub mod Telling
