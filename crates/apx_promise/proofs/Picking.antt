@@ -20,7 +20,6 @@ use Rattle.apx_history.proofs.Bounded.{is-bounded}
 use Rattle.apx_history.proofs.Listed.{choices-exact, always-goes-on}
 use Rattle.apx_history.proofs.Legal.{can_facts, events-keep, kept_start}
 use Rattle.apx_course.specs.Course.{entry}
-use Rattle.apx_course.specs.Faults.{is_fault}
 use Rattle.apx_promise.specs.Histories.{state_after}
 use Rattle.apx_promise.specs.Orders.{AllAreBy}
 use Rattle.apx_promise.specs.Laws.{PicksAreHistories, SomeIsPicked, PicksAreFronts, OneIsPicked}
@@ -31,20 +30,6 @@ among_at : (es : List Event) (k : ℕ) (d : Event) → k < length es → Among (
 among_at [] k d h = absurd (omega arith)
 among_at (e ∷ es) zero d h = inl refl
 among_at (e ∷ es) (suc k) d h = inr (among_at es k d (omega arith))
-
--- what is listed is no fault
-listed_goes : (plan : Plan) (m : State) (e : Event) → IsListed plan m e → is_fault e ≡ false
-listed_goes plan m (Start o i w) h = refl
-listed_goes plan m (Write w) h = refl
-listed_goes plan m (Finish o i w) h = refl
-listed_goes plan m (Save o i w) h = refl
-listed_goes plan m (Advance o i w) h = refl
-listed_goes plan m (Commit w) h = refl
-listed_goes plan m (Purge o i w) h = refl
-listed_goes plan m (Kill l) h = refl
-listed_goes plan m (Repartition l) h = refl
-listed_goes plan m End h = refl
-listed_goes plan m (Fault s) h = absurd h
 
 -- ---- one worker
 
@@ -98,18 +83,16 @@ module _ (plan : Plan) (is : IsPlan plan) where
     place : word % length (choices plan m) < length (choices plan m)
     place = let some = always-goes-on plan m is at.kept runs in omega arith
 
-    -- what is picked may come next
+    -- what is picked may come next, and is listed
+    chosen : (can plan m (picked plan m word) ≡ true) × IsListed plan m (picked plan m word)
+    unfolding picked
+    chosen = (choices-exact plan m (picked plan m word)).0 (among_at (choices plan m) (word % length (choices plan m)) End place)
+
     pub may : can plan m (picked plan m word) ≡ true
-    unfolding picked
-    may = ((choices-exact plan m (picked plan m word)).0 (among_at (choices plan m) (word % length (choices plan m)) End place)).0
+    may = chosen.0
 
-    -- it is no fault
-    pub goes : is_fault (picked plan m word) ≡ false
-    unfolding picked
-    goes = listed_goes plan m (picked plan m word)
-        ((choices-exact plan m (picked plan m word)).0 (among_at (choices plan m) (word % length (choices plan m)) End place)).1
-
-    fault_after : (e : Event) → is_fault e ≡ false → (next plan m 0 e).fault ≡ m.fault
+    -- what is listed is no fault
+    fault_after : (e : Event) → IsListed plan m e → (next plan m 0 e).fault ≡ m.fault
     unfolding put map_slots meet split
     fault_after (Start o i w) h = refl
     fault_after (Write w) h = refl
@@ -121,13 +104,13 @@ module _ (plan : Plan) (is : IsPlan plan) where
     fault_after (Kill l) h = refl
     fault_after (Repartition l) h = refl
     fault_after End h = refl
-    fault_after (Fault s) h = cc
+    fault_after (Fault s) h = absurd h
 
     pub stands_next : Stands (next plan m 0 (picked plan m word))
     stands_next = record {
       kept = events-keep plan m is at.kept 0 (picked plan m word) may;
       own = stays_own plan m 0 (picked plan m word) (can_facts plan m (picked plan m word) may) at.own;
-      sound = fault_after (picked plan m word) goes ∙ at.sound;
+      sound = fault_after (picked plan m word) chosen.1 ∙ at.sound;
     }
 
   -- what numbers pick may come in this order
