@@ -1,0 +1,5 @@
+mod Json
+mod Graph
+mod Lines
+mod Scripts
+mod Accepting
