@@ -78,6 +78,9 @@ impl<K: Keeper + Drop, V: Vault + Drop, P: Spools + Drop, J: Naming> Core<K, V, 
         ensures kept { Kept J.run.plan self.now.stores.course.machine }
         ensures rows { IsTrue J.run.told → FitsKeeper J.run.job.flow (status_of self.now.stores.course.fault)
             self.now.stores.course.machine.stored (K.stored self.now.stores.keeper) }
+        ensures last { self.now.stores.course.fault ≡ None → K.last self.now.stores.keeper ≡ self.now.stores.course.machine.stored }
+        ensures is_sound { self.now.stores.course.fault ≡ None → IsTrue (K.sound self.now.stores.keeper) }
+        ensures is_vault_sound { self.now.stores.course.fault ≡ None → IsTrue (V.sound self.now.stores.vault) }
         ensures caused { IfSome self.now.stores.course.fault
             (IsCaused J.run (K.faults self.now.stores.keeper) (V.faults self.now.stores.vault) (P.faults self.now.stores.spools)) }
         ensures fits { self.now.stores.course.fault ≡ None → Fits J.run.job (telling J.run V.tells)

@@ -199,6 +199,9 @@ impl<K: Keeper + Drop, V: Vault + Drop, P: Spools + Drop, J: Naming> Stores<K, V
         ensures kept { Kept J.run.plan self.now.course.machine }
         ensures rows { IsTrue J.run.told →
             FitsKeeper J.run.job.flow (status_of self.now.course.fault) self.now.course.machine.stored (K.stored self.now.keeper) }
+        ensures last { self.now.course.fault ≡ None → K.last self.now.keeper ≡ self.now.course.machine.stored }
+        ensures is_sound { self.now.course.fault ≡ None → IsTrue (K.sound self.now.keeper) }
+        ensures is_vault_sound { self.now.course.fault ≡ None → IsTrue (V.sound self.now.vault) }
         ensures caused { IfSome self.now.course.fault
             (IsCaused J.run (K.faults self.now.keeper) (V.faults self.now.vault) (P.faults self.now.spools)) }
         ensures tells { IsTrue J.run.told → IsTrue K.tells × IsTrue V.tells × IsTrue P.S.tells }
