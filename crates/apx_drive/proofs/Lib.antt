@@ -1,2 +1,2 @@
-mod Owing
-mod Driving
+pub mod Owing
+pub mod Driving

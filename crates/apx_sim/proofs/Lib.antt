@@ -1,0 +1,5 @@
+pub mod Opened
+pub mod Benches
+pub mod Histories
+pub mod Heads
+pub mod Told

@@ -1,0 +1,3 @@
+pub mod Hand
+pub mod Bench
+pub mod Headline
