@@ -167,7 +167,7 @@ fn tell(alloc: Global, kind: &Kind, tuple: &Tuple, told: &mut Vec<Tuple>) -> Res
     ensures { OnOk result (told.new.items ≡ told.old.items ++ told_of kind.now tuple.now) }
 {
     match *kind {
-        Kind::Keep { min, max } => keep(min, max, tuple.copy()?, told),
+        Kind::Keep { min, max } => keep_copy(min, max, tuple, told),
         Kind::Scale { factor } => scale(factor, tuple.copy()?, told),
         Kind::Words => tell_words(alloc, &tuple.key, tuple.value, told),
         Kind::Prefix { len } => tell_front(alloc, len, tuple, told),
@@ -182,6 +182,17 @@ fn keep(min: i64, max: i64, tuple: Tuple, told: &mut Vec<Tuple>) -> Result<(), A
 {
     if min <= tuple.value && tuple.value <= max {
         told.push(tuple)?;
+    }
+    Ok(())
+}
+
+/// Tells a copy of the tuple, where its value is from `min` to `max`.
+#[tactic(auto, unfolding(crate::specs::Telling::told_of))]
+fn keep_copy(min: i64, max: i64, tuple: &Tuple, told: &mut Vec<Tuple>) -> Result<(), AllocError>
+    ensures { OnOk result (told.new.items ≡ told.old.items ++ told_of (Kind.Keep min max) tuple.now) }
+{
+    if min <= tuple.value && tuple.value <= max {
+        told.push(tuple.copy()?)?;
     }
     Ok(())
 }
