@@ -16,14 +16,14 @@ const ONE_WINDOW: [u8; 25] = [
     1, 0, 0, 0, 19, 0, 0, 0, 1, 0, 0, 0, 1, 0, 1, 97, 0, 0, 0, 0, 0, 0, 0, 1, 0,
 ];
 
-// One row.
-fn one_row(alloc: Global) -> Result<Vec<Tuple>, Fail>
+// One row, whose value is the window's number.
+fn one_row(alloc: Global, window: u32) -> Result<Vec<Tuple>, Fail>
     ensures { IfOk result (λ rows. size_by tuple_key rows.items < 100) }
 {
     let mut rows = Vec::new(alloc);
     rows.push(Tuple {
         key: Key::of(alloc, b"a")?,
-        value: 1,
+        value: i64::from(window),
     })?;
     Ok(rows)
 }
@@ -39,7 +39,7 @@ fn new_log(alloc: Global) -> Option<SinkLog<MemoryDisk>> {
 #[test]
 fn a_window_is_a_record(rt: HostRuntime) -> Result<(), Fail> {
     let alloc = rt.alloc();
-    let rows = one_row(alloc)?;
+    let rows = one_row(alloc, 1)?;
     let mut log = new_log(alloc).ok_or(LogRefusal::Disk)?;
     if log.sound() && log.last() == 0 {
         log.commit(1, &rows)?;
@@ -83,13 +83,13 @@ fn a_log_opens_up_to_its_closed_gate(rt: HostRuntime) -> Result<(), Fail> {
 
 // Opens the log of a disk and commits six windows, up to the first call that fails: how many were told, and the disk.
 fn six_windows(alloc: Global, disk: MemoryDisk) -> Result<(u32, MemoryDisk), Fail> {
-    let rows = one_row(alloc)?;
     let mut log = match SinkLog::open(alloc, disk) {
         Ok(log) => log,
         Err((disk, _refusal)) => return Ok((0, disk)),
     };
     let mut told = 0;
     for window in 1..=6 {
+        let rows = one_row(alloc, window)?;
         if !log.sound() || log.last() != window - 1 {
             break;
         }
@@ -100,16 +100,49 @@ fn six_windows(alloc: Global, disk: MemoryDisk) -> Result<(u32, MemoryDisk), Fai
     Ok((told, log.close()))
 }
 
+// Whether a log has so many windows, each with the row that it was given.
+fn has_windows(alloc: Global, log: &mut SinkLog<MemoryDisk>, count: u32) -> Result<bool, Fail> {
+    if log.last() != count {
+        return Ok(false);
+    }
+    for window in 1..=count {
+        if !log.sound() || window > log.last() {
+            return Ok(false);
+        }
+        if log.rows(alloc, window)? != one_row(alloc, window)? {
+            return Ok(false);
+        }
+    }
+    Ok(true)
+}
+
+// That the file opens to the told windows, or to these and the next one.
+fn expect_told(rt: &impl Abort, alloc: Global, file: &[u8], told: u32) -> Result<(), Fail> {
+    let disk = MemoryDisk::new(alloc, file.to_vec(alloc)?);
+    let Ok(mut log) = SinkLog::open(alloc, disk) else {
+        assert!(rt; false);
+        return Ok(());
+    };
+    let is_told = has_windows(alloc, &mut log, told)?;
+    let is_next = told < 6 && has_windows(alloc, &mut log, told + 1)?;
+    assert!(rt; is_told || is_next);
+    Ok(())
+}
+
 #[test]
 fn a_stop_at_any_call_leaves_what_was_told(rt: HostRuntime) -> Result<(), Fail> {
     let alloc = rt.alloc();
     for calls in 0..40 {
         let disk = MemoryDisk::stopping(alloc, Vec::new(alloc), calls);
         let (told, disk) = six_windows(alloc, disk)?;
-        let left = opened(alloc, disk.bytes())?;
-        assert!(rt; left == Ok(told) || (told < 6 && left == Ok(told + 1)));
-        let torn = opened(alloc, disk.crash(1)?.bytes())?;
-        assert!(rt; torn == Ok(told) || (told < 6 && torn == Ok(told + 1)));
+        expect_told(&rt, alloc, disk.bytes(), told)?;
+        // A crash that tears the last change, with closed gates, open ones, and other bytes.
+        for fill in 0..3 {
+            let disk = MemoryDisk::stopping(alloc, Vec::new(alloc), calls);
+            let (_, disk) = six_windows(alloc, disk)?;
+            let torn = disk.crash(fill)?;
+            expect_told(&rt, alloc, torn.bytes(), told)?;
+        }
         if calls >= 30 {
             assert_eq!(rt; told, 6);
         }

@@ -177,8 +177,13 @@ fn a_stop_at_any_call_leaves_what_was_told(rt: HostRuntime) -> Result<(), Fail> 
         let disk = MemoryDisk::stopping(alloc, Vec::new(alloc), calls);
         let (told, disk) = eight_changes(alloc, disk);
         expect_told(&rt, alloc, disk.bytes(), told)?;
-        let torn = disk.crash(1)?;
-        expect_told(&rt, alloc, torn.bytes(), told)?;
+        // A crash that tears the last change, with closed gates, open ones, and other bytes.
+        for fill in 0..3 {
+            let disk = MemoryDisk::stopping(alloc, Vec::new(alloc), calls);
+            let (_, disk) = eight_changes(alloc, disk);
+            let torn = disk.crash(fill)?;
+            expect_told(&rt, alloc, torn.bytes(), told)?;
+        }
         if calls >= 40 {
             assert_eq!(rt; told, 8);
         }
