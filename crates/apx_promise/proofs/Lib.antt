@@ -7,4 +7,6 @@ pub mod Picking
 pub mod Saving
 pub mod Saved
 pub mod Making
+pub mod Keeping
+pub mod Calling
 pub mod Examples

@@ -94,7 +94,7 @@ one_more : (xs : List ℕ) (v w : ℕ) → has (xs ++ v ∷ []) w ≡ true → (
 one_more xs v w h = elim (one_of (has xs w) (has (v ∷ []) w) (sym (has-append xs (v ∷ []) w) ∙ h)) [ inl old ↦ inl old | inr new ↦ inr (alone v w new) ]
 
 -- an id by its parts
-same_id : (id : SaveId) (o b i w : ℕ) → id.op ≡ o → id.boundary ≡ b → id.part ≡ i → id.window ≡ w → id ≡ record { op = o; boundary = b; part = i; window = w }
+pub same_id : (id : SaveId) (o b i w : ℕ) → id.op ≡ o → id.boundary ≡ b → id.part ≡ i → id.window ≡ w → id ≡ record { op = o; boundary = b; part = i; window = w }
 same_id id o b i w op boundary part window =
     ap (λ (v : ℕ). record { op = v; boundary = id.boundary; part = id.part; window = id.window }) op
     ∙ ap (λ (v : ℕ). record { op = o; boundary = v; part = id.part; window = id.window }) boundary

@@ -1,11 +1,12 @@
 -- What is proved of every history, for every plan of a job and every start: the laws.
-use Rattle.std.specs.Prelude.{◌≡◌, ℕ, ◌≤◌, ◌⊎◌, true, List, ◌++◌, Contains}
+use Rattle.std.specs.Prelude.{◌≡◌, ℕ, ◌<◌, ◌≤◌, ◌⊎◌, Bool, true, List, ◌++◌, Contains, Option}
 use Rattle.apx_device.specs.declared.vault.SaveId.{SaveId}
+use Rattle.apx_device.specs.Vault as vault
 use Rattle.apx_history.specs.declared.Entry.{Entry}
 use Rattle.apx_history.specs.declared.Event.{Event}
-use Rattle.apx_history.specs.declared.Event.TheVariants.{End}
-use Rattle.apx_history.specs.Plan.{Plan}
-use Rattle.apx_history.specs.State.{State}
+use Rattle.apx_history.specs.declared.Event.TheVariants.{Save, Commit, Repartition, End}
+use Rattle.apx_history.specs.Plan.{Plan, line, count_or}
+use Rattle.apx_history.specs.State.{State, oper}
 use Rattle.apx_history.specs.Enabled.{can}
 use Rattle.apx_history.specs.Effects.{next}
 use Rattle.apx_history.specs.Journals.{beginning}
@@ -14,6 +15,7 @@ use Rattle.apx_history.specs.Kept.{IsPlan, IsStart, Kept}
 use Rattle.apx_history.specs.Laws.{IsHistory}
 use Rattle.apx_promise.specs.Histories.{state_after, StoresInOrder, FindsWhatItReads, EndsWhatItBegan, GoesOn, EndsWith, IsDone}
 use Rattle.apx_promise.specs.Orders.{IsPickedToEnd, AllAreBy}
+use Rattle.apx_promise.specs.Contents.{HasSaved, HasNoMore, ChangesBy, leaves, with_parts, HasLastSaves}
 use Rattle.apx_promise.specs.Checkpoints.{IsLastSave, last_saves, MustBeSaved, MayBeSaved, IsMadeBy}
 
 -- the windows are stored one after the other, each once
@@ -81,3 +83,55 @@ MadeMayBe = (plan : Plan) (m : State) (worker : ℕ) (e : Event) → IsPlan plan
 -- At first nothing must be there but what a run begins with.
 abbrev pub NoneAtFirst : Type 0
 NoneAtFirst = (plan : Plan) (s c : ℕ) (id : SaveId) → MustBeSaved plan (beginning plan s c) id → id.window ≡ c
+
+-- what passes a test is right
+abbrev pub Passes : (SaveId → List ℕ → Bool) → SaveId → List ℕ → Type 0
+Passes right id bytes = right id bytes ≡ true
+
+-- A store that has what must be saved goes on having it, by whatever event.
+abbrev pub SavedStays : Type 0
+SavedStays = (right : SaveId → List ℕ → Bool) (plan : Plan) (m : State) (worker : ℕ) (e : Event) (at new : SaveId → Option (List ℕ)) →
+    IsPlan plan → Kept plan m → can plan m e ≡ true → ChangesBy (Passes right) plan m e at new →
+    HasSaved (Passes right) plan m at → HasSaved (Passes right) plan (next plan m worker e) new
+
+-- A store that has no more than what may be there goes on so.
+abbrev pub NoMoreStays : Type 0
+NoMoreStays = (right : SaveId → List ℕ → Bool) (plan : Plan) (m : State) (worker : ℕ) (e : Event) (at new : SaveId → Option (List ℕ)) →
+    IsPlan plan → Kept plan m → can plan m e ≡ true → ChangesBy (Passes right) plan m e at new →
+    HasNoMore (Passes right) plan m at → HasNoMore (Passes right) plan (next plan m worker e) new
+
+-- A put under the id of a Save's checkpoint changes what a store has as the Save does.
+abbrev pub PutIsSave : Type 0
+PutIsSave = (right : SaveId → List ℕ → Bool) (plan : Plan) (m : State) (o i w : ℕ) (entries : List vault.Entry) (bytes : List ℕ) →
+    right (record { op = o; boundary = (oper m o).boundary; part = i; window = w }) bytes ≡ true →
+    ChangesBy (Passes right) plan m (Save o i w) (vault.entry_at entries)
+    (vault.entry_at (vault.with_entry entries (record { op = o; boundary = (oper m o).boundary; part = i; window = w }) bytes))
+
+-- Puts for all new partitions of a line's operator change it as the Repartition does.
+abbrev pub PutsAreRepartition : Type 0
+PutsAreRepartition = (right : SaveId → List ℕ → Bool) (plan : Plan) (m : State) (l : ℕ) (entries : List vault.Entry) (bytes : ℕ → List ℕ) →
+    ((i : ℕ) → i < count_or 0 (line plan l).act →
+    right (record { op = (line plan l).op; boundary = (line plan l).window; part = i; window = (line plan l).window }) (bytes i) ≡ true) →
+    ChangesBy (Passes right) plan m (Repartition l) (vault.entry_at entries)
+    (vault.entry_at (with_parts entries (line plan l).op (line plan l).window (count_or 0 (line plan l).act) bytes))
+
+-- A drop of what is below a window changes it as the Commit does.
+abbrev pub DropIsCommit : Type 0
+DropIsCommit = (right : SaveId → List ℕ → Bool) (plan : Plan) (m : State) (w : ℕ) (entries : List vault.Entry) →
+    ChangesBy (Passes right) plan m (Commit w) (vault.entry_at entries) (vault.entry_at (vault.entries_from entries w))
+
+-- And no other event asks for a change.
+abbrev pub OthersLeave : Type 0
+OthersLeave = (right : SaveId → List ℕ → Bool) (plan : Plan) (m : State) (e : Event) (at : SaveId → Option (List ℕ)) → leaves e ≡ true →
+    ChangesBy (Passes right) plan m e at at
+
+-- A run that begins from nothing, over any store, has what must be saved.
+abbrev pub SavedAtFirst : Type 0
+SavedAtFirst = (right : SaveId → List ℕ → Bool) (plan : Plan) (s : ℕ) (at : SaveId → Option (List ℕ)) →
+    HasSaved (Passes right) plan (beginning plan s 0) at
+
+-- When a run has ended, a store that has what must be saved and no more has the last checkpoints and no other.
+abbrev pub LastAtEnd : Type 0
+LastAtEnd = (right : SaveId → List ℕ → Bool) (plan : Plan) (s c : ℕ) (es : List Entry) (at : SaveId → Option (List ℕ)) →
+    IsHistory plan s c es → EndsWith End es → HasSaved (Passes right) plan (state_after plan s c es) at →
+    HasNoMore (Passes right) plan (state_after plan s c es) at → HasLastSaves (Passes right) plan at

@@ -1,4 +1,5 @@
 pub mod Histories
 pub mod Orders
 pub mod Checkpoints
+pub mod Contents
 pub mod Laws

@@ -8,7 +8,7 @@
 //! The functions do nothing: each states a law in its contract.
 #![tactic(auto)]
 
-ghost use Rattle.apx_promise.specs.Laws.{AllStoreInOrder, AllFindWhatTheyRead, AllEndWhatTheyBegan, AllGoOn, EndedAreDone, PicksAreHistories, SomeIsPicked, PicksAreFronts, OneIsPicked, LastSavesAreExact, LastAreSaved, SavesAreMade, MadeMayBe, NoneAtFirst};
+ghost use Rattle.apx_promise.specs.Laws.{AllStoreInOrder, AllFindWhatTheyRead, AllEndWhatTheyBegan, AllGoOn, EndedAreDone, PicksAreHistories, SomeIsPicked, PicksAreFronts, OneIsPicked, LastSavesAreExact, LastAreSaved, SavesAreMade, MadeMayBe, NoneAtFirst, SavedStays, NoMoreStays, SavedAtFirst, LastAtEnd, PutIsSave, PutsAreRepartition, DropIsCommit, OthersLeave};
 
 /// The windows are stored one after the other, each once, from the first that the store hadn't yet.
 pub fn windows_are_stored_in_order()
@@ -58,4 +58,22 @@ pub fn checkpoints_are_made_by_events()
     ensures must { SavesAreMade }
     ensures may { MadeMayBe }
     ensures first { NoneAtFirst }
+{}
+
+/// A checkpoint store that each event changes by what it makes and drops has at every moment what must be saved, and no more
+/// than what may be there where it began with nothing. So at the end it has the last checkpoints, and no other.
+pub fn stores_keep_checkpoints()
+    ensures saved { SavedStays }
+    ensures no_more { NoMoreStays }
+    ensures first { SavedAtFirst }
+    ensures last { LastAtEnd }
+{}
+
+/// What the calls of a checkpoint store leave of its entries is what the events ask for: one put for a Save, one for each new
+/// partition for a Repartition, a drop for a Commit, and nothing for any other.
+pub fn calls_change_stores_as_events_do()
+    ensures save { PutIsSave }
+    ensures repartition { PutsAreRepartition }
+    ensures commit { DropIsCommit }
+    ensures others { OthersLeave }
 {}
