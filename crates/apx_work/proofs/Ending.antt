@@ -1,19 +1,20 @@
 -- What a worker with a claim may do, and one without.
-use Rattle.std.proofs.Common.{◌≡◌, ℕ, Bool, true, false, cond, ◌&&◌, ◌==◌, Option, None, Some, refl, sym, ap, ◌∙◌}
+use Rattle.std.proofs.Common.{◌≡◌, ℕ, Bool, true, false, cond, ◌&&◌, ◌==◌, Option, None, Some, refl, sym, ap, subst, ◌∙◌}
 use Rattle.apx_history.specs.declared.Event.{Event}
 use Rattle.apx_history.specs.declared.Event.TheVariants.{Start, Write, Finish, Save, Advance, Commit, Purge, Kill, Repartition, End, Fault}
 use Rattle.apx_history.specs.declared.Act.{Act}
 use Rattle.apx_history.specs.declared.Act.TheVariants.{Fails, Splits}
-use Rattle.apx_history.specs.Plan.{Plan, line, fails_part}
+use Rattle.apx_history.specs.Plan.{Plan, line, fails_part, kills}
 use Rattle.apx_history.specs.State.{State, slot, open_window, open_worker}
 use Rattle.apx_history.specs.Enabled.{can}
 use Rattle.apx_history.specs.Conditions.{CanWrite, CanFinish}
 use Rattle.apx_history.specs.Journals.{owed, bears}
+use Rattle.apx_history.specs.Laws.{IsOpen}
 use Rattle.apx_history.proofs.Tests.{both}
 use Rattle.apx_history.proofs.Conditions.{all_true, equal_at, equal_by}
 use Rattle.apx_history.proofs.Legal.{can_facts}
 use Rattle.apx_machine.specs.Picked.{killed, ended_by, is_claimed, may_do}
-use Rattle.apx_work.specs.Own.{open_for, ClaimEnds, FreeEndsNone}
+use Rattle.apx_work.specs.Own.{open_for, Ends, ClaimEnds, ends_window, FreeEndsNone}
 
 -- a partition has one window open
 one_window : (w v : ℕ) (x : Option ℕ) → x ≡ Some w → x ≡ Some v → v ≡ w

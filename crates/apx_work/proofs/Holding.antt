@@ -9,9 +9,10 @@ use Rattle.apx_history.specs.Laws.{IsHistory, IsOpen}
 use Rattle.apx_history.proofs.Tests.{both, test}
 use Rattle.apx_history.proofs.Conditions.{all_true, equal_at, equal_by}
 use Rattle.apx_course.specs.Course.{entry}
+use Rattle.apx_course.specs.Faults.{is_fault}
 use Rattle.apx_lock.proofs.Entries.{one_own}
 use Rattle.apx_work.specs.declared.hands.OpenWindow.{OpenWindow}
-use Rattle.apx_work.specs.Own.{own, state_of, open_for, open_after, open_behind, ends_window}
+use Rattle.apx_work.specs.Own.{own, state_of, open_for, open_after, open_behind, open_in, Ends, ends_window}
 use Rattle.apx_work.specs.Claims.{open_window, unless_killed, claim_after, claim_behind, IsAllowed, AreOneByOne, Claims, claimed_at, ClaimIsOpen}
 use Rattle.apx_work.specs.Turns.{goes_alone, Adds, Stops}
 use Rattle.apx_work.proofs.Opening.{own-tells, open-stays}
@@ -191,6 +192,11 @@ module _ (plan : Plan) (u : ℕ) where
   pub alone_push : (old new : List Entry) (e : Event) → Claims plan u (own u old) None → goes_alone e ≡ true → Adds u e old new → Claims plan u (own u new) None
   alone_push old new e h alone adds =
       subst (λ (y : Option OpenWindow). Claims plan u (own u new) y) (alone_same e alone) (claims_push old new None e h (alone_allowed e alone) adds)
+
+  pub start_push : (old new : List Entry) (o i w : ℕ) (x : OpenWindow) → Claims plan u (own u old) None → x ≡ open_window o i w u → Adds u (Start o i w) old new
+      → Claims plan u (own u new) (Some x)
+  start_push old new o i w x h is adds =
+      subst (λ (y : OpenWindow). Claims plan u (own u new) (Some y)) (sym is) (claims_push old new None (Start o i w) h refl adds)
 
   pub write_push : (old new : List Entry) (x : OpenWindow) → Claims plan u (own u old) (Some x) → x.op ≡ plan.sink → x.part ≡ 0 → Adds u (Write x.window) old new
       → Claims plan u (own u new) (Some x)

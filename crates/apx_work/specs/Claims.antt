@@ -1,8 +1,8 @@
 -- A worker that has one claim after the other, by its own entries.
-use Rattle.std.specs.Prelude.{◌≡◌, ℕ, ◌⊎◌, true, false, cond, ◌&&◌, ◌==◌, List, [], ◌∷◌, Option, None, Some}
+use Rattle.std.specs.Prelude.{◌≡◌, ℕ, ◌⊎◌, Bool, true, false, cond, ◌&&◌, ◌==◌, List, [], ◌∷◌, Option, None, Some}
 use Rattle.apx_history.specs.declared.Entry.{Entry}
 use Rattle.apx_history.specs.declared.Event.{Event}
-use Rattle.apx_history.specs.declared.Event.TheVariants.{Start, Finish, Kill}
+use Rattle.apx_history.specs.declared.Event.TheVariants.{Start, Write, Finish, Save, Advance, Commit, Purge, Kill, Repartition, End, Fault}
 use Rattle.apx_history.specs.Plan.{Plan, line, kills}
 use Rattle.apx_course.specs.Faults.{is_fault}
 use Rattle.apx_work.specs.declared.hands.OpenWindow.{OpenWindow}

@@ -1,3 +1,5 @@
 pub mod Own
 pub mod Claims
 pub mod Turns
+pub mod Hands
+pub mod Workers
