@@ -22,7 +22,7 @@ pub enum SpoolRefusal<F> {
 /// A store of pieces of bytes, each under a number.
 pub trait Spool {
     /// How the spool fails. A value of it is made by the spool alone.
-    type Fault: Debug + Drop + Send;
+    type Fault: Debug + Drop;
 
     /// Whether the spool tells its pieces.
     ghost tells: { Bool };
@@ -63,7 +63,7 @@ pub enum SpoolsRefusal {
 /// A maker of spools.
 pub trait Spools {
     /// The spools that it makes.
-    type S: Spool + Drop + Send;
+    type S: Spool + Drop;
 
     /// How many faults there were in making spools.
     ghost faults: { Self → ℕ };

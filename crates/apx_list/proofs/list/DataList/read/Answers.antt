@@ -17,28 +17,28 @@ returns-in-Held-clause-read g c =
     rw (c.in_ok-share-in-Held.ensures, ← c.self.view_is) (read_is g.S.Spool.tells (g.N.Naming.named inside.name) _ c.args.place c.in-Held.block c.self.invariant.numbers.named (fetched_held g.S.Spool.tells inside.plan inside.first inside.kept.items c.args.place c.in-Held.block owed.kept found c.self.invariant.numbers.spelled))
 
 pub fetch_once-requires-clause-window : goal.fetch_once-requires-clause-window
-fetch_once-requires-clause-window g c κs bounds =
+fetch_once-requires-clause-window g c =
     let inside = c.self.inside in
     let owed = rw (← c.self.view_is) at c.requires in
     let out = out_at g.S.Spool.tells (g.S.Spool.held inside.spool) inside.plan inside.first inside.kept.items c.args.place c.in-Some.kept.now c.in-Spilled.marks c.in-Spilled.field-1 c.self.invariant.put owed.kept (search rules) (search rules) c.in-Spilled.is in
     in_run (g.N.Naming.named inside.name) inside.plan inside.floor inside.top inside.first (all_of inside.kept.items) inside.from inside.starts.items inside.next_start (c.args.place - inside.first) _ c.self.invariant.numbers out.is
 
 pub fetch_once-requires-clause-held : goal.fetch_once-requires-clause-held
-fetch_once-requires-clause-held g c κs bounds =
+fetch_once-requires-clause-held g c =
     let inside = c.self.inside in
     let owed = rw (← c.self.view_is) at c.requires in
     let out = out_at g.S.Spool.tells (g.S.Spool.held inside.spool) inside.plan inside.first inside.kept.items c.args.place c.in-Some.kept.now c.in-Spilled.marks c.in-Spilled.field-1 c.self.invariant.put owed.kept (search rules) (search rules) c.in-Spilled.is in
     out.there
 
 pub fetch_once-requires-clause-spells : goal.fetch_once-requires-clause-spells
-fetch_once-requires-clause-spells g c κs bounds =
+fetch_once-requires-clause-spells g c =
     let inside = c.self.inside in
     let owed = rw (← c.self.view_is) at c.requires in
     let out = out_at g.S.Spool.tells (g.S.Spool.held inside.spool) inside.plan inside.first inside.kept.items c.args.place c.in-Some.kept.now c.in-Spilled.marks c.in-Spilled.field-1 c.self.invariant.put owed.kept (search rules) (search rules) c.in-Spilled.is in
     spells_put g.S.Spool.tells inside.plan inside.first inside.kept.items c.args.place c.in-Spilled.marks c.in-Spilled.field-1.value (g.S.Spool.held inside.spool c.args.place) out c.self.invariant.numbers.spelled
 
 pub fetch_once-requires-clause-latest : goal.fetch_once-requires-clause-latest
-fetch_once-requires-clause-latest g c κs bounds =
+fetch_once-requires-clause-latest g c =
     let inside = c.self.inside in
     let owed = rw (← c.self.view_is) at c.requires in
     let out = out_at g.S.Spool.tells (g.S.Spool.held inside.spool) inside.plan inside.first inside.kept.items c.args.place c.in-Some.kept.now c.in-Spilled.marks c.in-Spilled.field-1 c.self.invariant.put owed.kept (search rules) (search rules) c.in-Spilled.is in
