@@ -1,5 +1,7 @@
 -- The name of a run.
-use Rattle.std.specs.Prelude.{ℕ, Bool, false, []}
+use Rattle.std.specs.Prelude.{ℕ, Bool, false, List, []}
+use Rattle.apx_tuple.specs.declared.tuple.Tuple.{Tuple}
+use Rattle.apx_device.specs.Vault.{Entry}
 use Rattle.apx_history.specs.Plan.{Plan}
 use Rattle.apx_pass.specs.Job.{Job}
 
@@ -9,10 +11,14 @@ pub record Run : Type 0 where
   pub job : Job
   -- the plan of the job, as its machine has it
   pub plan : Plan
-  -- all its devices tell what they hold
+  -- its checkpoint store and its spools tell what they hold
   pub told : Bool
   -- the last window that the sink's store had
   pub stored : ℕ
+  -- the rows of each window that the sink's store had, where it tells
+  pub rows : List (List Tuple)
+  -- what the checkpoint store had, where it tells
+  pub entries : List Entry
   -- the window behind which the run began
   pub from : ℕ
   -- how many faults the sink's store had counted
@@ -37,6 +43,8 @@ no_run = record {
   plan = record { windows = 0; every = 0; sink = 0; operators = []; lines = [] };
   told = false;
   stored = 0;
+  rows = [];
+  entries = [];
   from = 0;
   keeper = 0;
   vault = 0;
