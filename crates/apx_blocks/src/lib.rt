@@ -4,9 +4,11 @@
 //! and the rows that reach the sink come out.
 #![tactic(auto)]
 
+pub use large::large_only_in_pass;
 pub use run::BlockRun;
 
 mod inputs;
+mod large;
 mod operator;
 mod parts;
 mod run;

@@ -168,3 +168,33 @@ fn a_stop_at_any_call_leaves_what_was_told(rt: HostRuntime) -> Result<(), Fail> 
     }
     Ok(())
 }
+
+#[test]
+fn a_record_is_four_calls(rt: HostRuntime) -> Result<(), Fail> {
+    let alloc = rt.alloc();
+    // Four calls open a new list.
+    for told in 0..6u64 {
+        let calls = 8 + 4 * told;
+        let disk = MemoryDisk::stopping(alloc, Vec::new(alloc), calls - 1);
+        let (before, _) = six_records(alloc, disk);
+        let disk = MemoryDisk::stopping(alloc, Vec::new(alloc), calls);
+        let (after, _) = six_records(alloc, disk);
+        assert_eq!(rt; (before as u64, after as u64), (told, told + 1));
+    }
+    Ok(())
+}
+
+#[test]
+fn a_file_is_read_in_pieces(rt: HostRuntime) -> Result<(), Fail> {
+    let alloc = rt.alloc();
+    // A record of 2 MiB: its file has six bytes more.
+    let mut file = [1, 0, 32, 0, 0].to_vec(alloc)?;
+    file.resize(2_097_157, 7)?;
+    file.push(0)?;
+    // A sync, the length, three pieces, the gate, a sync.
+    for (calls, opens) in [(6, false), (7, true)] {
+        let disk = MemoryDisk::stopping(alloc, file.to_vec(alloc)?, calls);
+        assert_eq!(rt; Records::open(alloc, disk).is_ok(), opens);
+    }
+    Ok(())
+}

@@ -174,6 +174,26 @@ fn a_file_keeps_what_a_disk_is_given(rt: HostRuntime) -> Result<(), Fail> {
 }
 
 #[test]
+fn records_on_a_file_are_read_again(rt: HostRuntime) -> Result<(), Fail> {
+    let alloc = rt.alloc();
+    let path = "/tmp/apx_files_records.log";
+    let _ = fs::remove_file(&rt, path);
+    for (added, before) in [("ab", 0), ("", 1), ("c", 2)] {
+        let disk = FileDisk::new(&rt, String::from_str(alloc, path)?);
+        let (mut records, read) = Records::open(alloc, disk).map_err(|stop| stop.1)?;
+        assert_eq!(rt; read.len(), before);
+        records.add(added.as_bytes())?;
+        assert_eq!(rt; records.faults(), 0);
+    }
+    assert_eq!(rt;
+        fs::read(&rt, path)?.as_slice(),
+        [1, 0, 0, 0, 2, 97, 98, 1, 0, 0, 0, 0, 1, 0, 0, 0, 1, 99, 0].as_slice()
+    );
+    fs::remove_file(&rt, path)?;
+    Ok(())
+}
+
+#[test]
 fn a_spool_gives_back_each_piece_and_leaves_no_file(rt: HostRuntime) -> Result<(), Fail> {
     let alloc = rt.alloc();
     let mut spools = FileSpools::new(&rt, alloc, String::from_str(alloc, "/tmp")?);
