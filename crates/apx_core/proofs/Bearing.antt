@@ -51,13 +51,16 @@ work_rows run c done planned graph sink work t =
     let role : (node_at nodes c.op).role ≡ Sink = ap (λ (o : ℕ). (node_at nodes o).role) at ∙ sink_is nodes graph in
     (work.part t).whole (ap is_sink role) ∙ ap (λ (o : ℕ). rows_at run.job.flow c.window o) at
 
+-- a claim with these numbers
+abbrev pub numbered : ℕ → ℕ → ℕ → Claimed → Claimed
+numbered o i w c = record { op = o; part = i; window = w; worker = c.worker; state = c.state; left = c.left; right = c.right }
+
 -- what was made of a claim's window, by the claim's numbers
-pub work_at : (run : Run) (c : Claimed) (done : Done) (o i w : ℕ) → o ≡ c.op → i ≡ c.part → w ≡ c.window → IsWork run c done
-    → IsWork run (record { op = o; part = i; window = w; worker = c.worker; state = c.state; left = c.left; right = c.right }) done
+pub work_at : (run : Run) (c : Claimed) (done : Done) (o i w : ℕ) → o ≡ c.op → i ≡ c.part → w ≡ c.window → IsWork run c done → IsWork run (numbered o i w c) done
 work_at run c done o i w eo ei ew work =
-    subst (λ (k : ℕ). IsWork run (record { op = k; part = i; window = w; worker = c.worker; state = c.state; left = c.left; right = c.right }) done) (sym eo)
-    (subst (λ (k : ℕ). IsWork run (record { op = c.op; part = k; window = w; worker = c.worker; state = c.state; left = c.left; right = c.right }) done) (sym ei)
-    (subst (λ (k : ℕ). IsWork run (record { op = c.op; part = c.part; window = k; worker = c.worker; state = c.state; left = c.left; right = c.right }) done) (sym ew) work))
+    subst (λ (k : ℕ). IsWork run (numbered k i w c) done) (sym eo)
+    (subst (λ (k : ℕ). IsWork run (numbered c.op k w c) done) (sym ei)
+    (subst (λ (k : ℕ). IsWork run (numbered c.op c.part k c) done) (sym ew) work))
 
 -- who takes the claim of an open partition may kill it, and anybody a closed one
 pub kill_bears : (plan : Plan) (m : State) (l u : ℕ) (claim : Option Claimed) → TakesClaim plan m l u claim → bears (owed plan m (Kill l)) u ≡ true

@@ -1,5 +1,5 @@
 -- What is kept fits after each event: on plain values.
-use Rattle.std.proofs.Common.{◌≡◌, ℕ, List, Option, IsTrue, sym, ap, subst, ◌∙◌, arith}
+use Rattle.std.proofs.Common.{◌≡◌, ℕ, ◌≤◌, List, Option, IsTrue, sym, ap, subst, ◌∙◌, arith}
 use Rattle.apx_device.specs.declared.vault.SaveId.{SaveId}
 use Rattle.apx_device.specs.Vault.{Entry, entry_at, with_entry}
 use Rattle.apx_device.proofs.Lookups.{entry_at-put, entry_at-put_other}
@@ -8,9 +8,10 @@ use Rattle.apx_history.specs.State.{Oper, State, oper, slot, put}
 use Rattle.apx_history.specs.Effects.{saves, purged}
 use Rattle.apx_history.specs.Conditions.{CanSave, CanPurge}
 use Rattle.apx_pass.specs.Job.{Job}
-use Rattle.apx_held.specs.Holding.{Holding, holding, put_holding, dropped, IsSpelled}
+use Rattle.apx_job.specs.Job.{plan_of}
+use Rattle.apx_held.specs.Holding.{Holding, holding, put_holding, dropped, IsHeld, IsSpelled}
 use Rattle.apx_held.specs.Fits.{Telling, Fits, save_id}
-use Rattle.apx_held.proofs.Fitting.{fits_purge, fits_save}
+use Rattle.apx_held.proofs.Fitting.{held_of, fits_purge, fits_save}
 
 module _ (job : Job) (tells : Telling) (m : State) (hs : List (List Holding)) where
   -- what changes beside the partitions is no matter
@@ -30,6 +31,16 @@ module _ (job : Job) (tells : Telling) (m : State) (hs : List (List Holding)) wh
       (λ t. ap (λ (es : List Entry). entry_at es id) (put_is t) ∙ entry_at-put entries id bytes)
       (λ t other differs. ap (λ (es : List Entry). entry_at es other) (put_is t) ∙ entry_at-put_other entries id other bytes differs)
       is
+
+  -- what a purge asks of what is kept
+  pub purge_asks : (at : SaveId → Option (List ℕ)) (o i to : ℕ) (plan : Plan) → plan ≡ plan_of job → CanPurge plan m o i to → Fits job tells at m hs
+      → IsHeld hs o i × ((holding hs o i).list.floor ≤ to) × (to ≤ (holding hs o i).list.top)
+  purge_asks at o i to plan planned can fits =
+      let list = (fits.each o i can.part).list (λ e. can.inner (e ∙ sym (ap (λ (p : Plan). p.sink) planned))) in (
+        held_of job tells at m hs o i fits can.part,
+        let a = list.floor in let b = can.above in omega (arith, a, b),
+        let a = list.top in let b = can.within in omega (arith, a, b),
+      )
 
   -- Purge
   pub purged_fits : (at : SaveId → Option (List ℕ)) (o i to : ℕ) (plan : Plan) → CanPurge plan m o i to

@@ -48,7 +48,7 @@ module _ (run : Run) (tells : Telling) (reads_told : Bool) (at : SaveId → Opti
     list_of : (j : ℕ) → j < length (get_or hs s []) → FitsList run.job tells.all s (oper m s).boundary j (slot m s j) (holding hs s j).list
     list_of j lt = (fits.each s j (part_of j lt)).list inner
 
-    pub can_lend : CanLendAll hs s w
+    pub can_lend : CanLendAll (plan_in run.job) hs s w
     can_lend = record {
       there = let a = read.there in let b = fits.ops in omega (arith, a, b);
       few = let a = fits.sizes s read.there in let b = parts_few run.plan m small kept s read.there in omega (arith, a, b);
@@ -59,6 +59,7 @@ module _ (run : Run) (tells : Telling) (reads_told : Bool) (at : SaveId → Opti
             kept = let a = list.floor in let b = within.0 in omega (arith, a, b);
             whole = let a = list.top in let b = within.1 in omega (arith, a, b);
           };
+      cuts = λ j lt. (list_of j lt).cut;
     }
 
     pub source_whole : (lists : List (List Block)) → AreLent reads_told w (get_or hs s []) lists → AreWhole run w lists
@@ -73,10 +74,10 @@ module _ (run : Run) (tells : Telling) (reads_told : Bool) (at : SaveId → Opti
 
   -- ---- both ports
 
-  pub left_lends : reads_left (node_at run.job.flow.nodes o).role ≡ true → CanLendAll hs (node_at run.job.flow.nodes o).left w
+  pub left_lends : reads_left (node_at run.job.flow.nodes o).role ≡ true → CanLendAll (plan_in run.job) hs (node_at run.job.flow.nodes o).left w
   left_lends h = can_lend (node_at run.job.flow.nodes o).left (left_read run.plan run.job planned o op_there h) (left_inner run.job.flow.nodes graph o op_there h)
 
-  pub right_lends : reads_right (node_at run.job.flow.nodes o).role ≡ true → CanLendAll hs (node_at run.job.flow.nodes o).right w
+  pub right_lends : reads_right (node_at run.job.flow.nodes o).role ≡ true → CanLendAll (plan_in run.job) hs (node_at run.job.flow.nodes o).right w
   right_lends h = can_lend (node_at run.job.flow.nodes o).right (right_read run.plan run.job planned o op_there h) (right_inner run.job.flow.nodes graph o op_there h)
 
   none_whole : (lists : List (List Block)) → lists ≡ [] → AreWhole run w lists
@@ -90,6 +91,10 @@ module _ (run : Run) (tells : Telling) (reads_told : Bool) (at : SaveId → Opti
   port_lent : (b : Bool) (s : ℕ) (lists : List (List Block)) → IsPort reads_told b w (get_or hs s []) lists → b ≡ true → AreLent reads_told w (get_or hs s []) lists
   port_lent true s lists port e = port
   port_lent false s lists port e = absurd (let f : false ≡ true = e in cc)
+
+  port_none : (b : Bool) (s : ℕ) (lists : List (List Block)) → IsPort reads_told b w (get_or hs s []) lists → b ≡ false → lists ≡ []
+  port_none true s lists port e = absurd (let f : true ≡ false = e in cc)
+  port_none false s lists port e = port
 
   carried_as : boundary_of run.job o w ≡ (oper m o).boundary → (slot m o i).at ≡ w - 1
       → progress_at run.job o (oper m o).boundary i (slot m o i).at ≡ part_progress run.job.flow (in_force run.job o w) i (w - 1) o
@@ -123,6 +128,8 @@ module _ (run : Run) (tells : Telling) (reads_told : Bool) (at : SaveId → Opti
             (λ h lent. source_whole node.left (left_read run.plan run.job planned o op_there h) (left_inner run.job.flow.nodes graph o op_there h) left lent);
         right_whole = port_whole (reads_right node.role) node.right right right_port
             (λ h lent. source_whole node.right (right_read run.plan run.job planned o op_there h) (right_inner run.job.flow.nodes graph o op_there h) right lent);
+        left_none = port_none (reads_left node.role) node.left left left_port;
+        right_none = port_none (reads_right node.role) node.right right right_port;
         carried = λ t.
             let is_kept : IfSome (holding hs o i).state (λ g. g ≡ progress_at run.job o (oper m o).boundary i (slot m o i).at) = (fits.each o i can.part).state (told t) in
             let was : state ≡ progress_at run.job o (oper m o).boundary i (slot m o i).at = subst (λ s. IfSome s (λ g. g ≡ progress_at run.job o (oper m o).boundary i (slot m o i).at)) state_is is_kept in

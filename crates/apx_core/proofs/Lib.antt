@@ -2,8 +2,11 @@ pub mod Planned
 pub mod Graphs
 pub mod Sources
 pub mod Claiming
+pub mod Unlent
 pub mod Bearing
 pub mod Working
+pub mod Checkpoints
 pub mod Going
 pub mod Changes
 pub mod Bringing
+pub mod Crashing

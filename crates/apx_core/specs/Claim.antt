@@ -1,5 +1,5 @@
 -- What contracts see of a claim, and what is so of each.
-use Rattle.std.specs.Prelude.{◌≡◌, ℕ, ◌-◌, ◌<◌, ◌≤◌, true, List, Option, None, Some, length, IsTrue, IfSome, IfNone}
+use Rattle.std.specs.Prelude.{◌≡◌, ℕ, ◌-◌, ◌<◌, ◌≤◌, true, false, List, [], Option, None, Some, length, IsTrue, IfSome, IfNone}
 use Rattle.apx_tuple.specs.declared.progress.Progress.{Progress}
 use Rattle.apx_tuple.specs.declared.tuple.Tuple.{Tuple}
 use Rattle.apx_tuple.specs.Progress.{progress_size}
@@ -16,6 +16,7 @@ use Rattle.apx_part.specs.declared.window.Done.{Done}
 use Rattle.apx_part.specs.Fed.{plan_in, AreWindows, IsFedAll}
 use Rattle.apx_part.specs.Made.{HasBlocks, IsPart}
 use Rattle.apx_course.specs.Run.{Run}
+use Rattle.apx_core.specs.Ports.{reads_left, reads_right}
 
 -- a worker's claim on a window of a partition
 pub record Claimed : Type 0 where
@@ -38,8 +39,8 @@ pub record Claimed : Type 0 where
 abbrev pub AreWhole : Run → ℕ → List (List Block) → Type 0
 AreWhole run w lists = (bags : List (List Tuple)) × AreWindows (plan_in run.job) w lists bags
 
--- What is so of each claim. It has what a window's work asks for; where all devices tell, what the partition carries and what
--- comes to it is that of the one pass.
+-- What is so of each claim. It has what a window's work asks for; where the checkpoint store and the spools tell, what the partition
+-- carries and what comes to it is that of the one pass.
 pub record IsClaim (run : Run) (c : Claimed) : Type 0 where
   -- the operator is there
   pub there : c.op < length run.job.flow.nodes
@@ -55,6 +56,10 @@ pub record IsClaim (run : Run) (c : Claimed) : Type 0 where
   pub left_whole : AreWhole run c.window c.left
   -- and so are those on the right
   pub right_whole : AreWhole run c.window c.right
+  -- where there is no left port there are none on the left
+  pub left_none : reads_left (node_at run.job.flow.nodes c.op).role ≡ false → c.left ≡ []
+  -- and so it is on the right
+  pub right_none : reads_right (node_at run.job.flow.nodes c.op).role ≡ false → c.right ≡ []
   -- it is what the partition carries from the window before
   pub carried : IsTrue run.told →
       IfSome c.state (λ g. g ≡ part_progress run.job.flow (in_force run.job c.op c.window) c.part (c.window - 1) c.op)
@@ -76,7 +81,8 @@ pub record TakesClaim (plan : Plan) (m : State) (l worker : ℕ) (claim : Option
   -- where none is taken, nobody has the partition open
   pub none : IfNone claim (owed plan m (Kill l) ≡ None)
 
--- What a claim's work makes. Where all devices tell, it is what the partition makes of the window in the one pass.
+-- What a claim's work makes. Where the checkpoint store and the spools tell, it is what the partition makes of the window in the
+-- one pass.
 pub record IsWork (run : Run) (c : Claimed) (done : Done) : Type 0 where
   -- the blocks are those of the rows; the sink has none
   pub blocks : HasBlocks (plan_in run.job) (node_at run.job.flow.nodes c.op).role c.window done.rows done.blocks.items

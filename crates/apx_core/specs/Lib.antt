@@ -1,3 +1,4 @@
 pub mod Core
 pub mod Claim
 pub mod Ports
+pub mod Crashes

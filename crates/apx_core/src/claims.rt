@@ -4,8 +4,10 @@ ghost use Rattle.apx_tuple.specs.declared.progress.Progress.{Progress};
 ghost use Rattle.apx_tuple.specs.declared.tuple.Tuple.{Tuple};
 ghost use Rattle.apx_part.specs.Fed.{plan_in, AreWindows};
 ghost use Rattle.apx_part.specs.Made.{made_of, IsMade, IsLargePart};
+ghost use Rattle.apx_stores.specs.Caused.{IsTooLarge};
 ghost use Rattle.apx_core.specs.Claim.{IsClaim, IsWork, worked};
 
+use apx_blocks::large_only_in_pass;
 use apx_course::Naming;
 use apx_job::Job;
 use apx_list::Block;
@@ -126,8 +128,9 @@ impl<J: Naming> Claim<J> {
         let _ = &self.inputs;
     }
 
-    /// The work of the window: what the partition carries is taken out of the claim. Where all devices tell, what is made is that of
-    /// the one pass. `Large` comes only where what comes on a port is too large, or what is carried on or given.
+    /// The work of the window: what the partition carries is taken out of the claim. Where the checkpoint store and the spools tell,
+    /// what is made is that of the one pass. `Large` comes only where what comes on a port is too large, or what is carried on or
+    /// given; where these devices tell, only where the dataflow is.
     pub fn work(&mut self, alloc: Global, job: &Job) -> Result<Done, Short>
         requires job { job.now ≡ J.run.job }
         requires carries { IsSome self.old.state }
@@ -142,7 +145,9 @@ impl<J: Naming> Claim<J> {
             AreWindows (plan_in J.run.job) self.old.window self.old.left lefts →
             AreWindows (plan_in J.run.job) self.old.window self.old.right rights →
             result ≡ Err Short.Large → IsLargePart J.run.job self.old.op self.old.part self.old.window g lefts rights }
+        ensures cause { result ≡ Err Short.Large → IsTooLarge J.run.job.flow J.run.told }
     {
+        large_only_in_pass(job);
         match self.state.take() {
             Some(state) => work_window_of(
                 alloc,

@@ -1,5 +1,6 @@
 //! The core, and what it lends.
-ghost use Rattle.std.specs.Prelude.{◌≡◌, ◌≤◌, None, Some, IsTrue, IfSome, IfNone};
+ghost use Rattle.std.specs.Prelude.{◌≡◌, ◌≤◌, None, Some, IsTrue, IfSome, IfNone, true};
+ghost use Rattle.apx_history.specs.State.{running};
 ghost use Rattle.apx_history.specs.Journals.{beginning, after};
 ghost use Rattle.apx_history.specs.Kept.{Kept};
 ghost use Rattle.apx_history.specs.Laws.{IsHistory};
@@ -9,9 +10,11 @@ ghost use Rattle.apx_pass.specs.Pass.{windows};
 ghost use Rattle.apx_job.specs.Job.{plan_of};
 ghost use Rattle.apx_dag.specs.Valid.{IsGraph};
 ghost use Rattle.apx_course.specs.Faults.{status_of};
-ghost use Rattle.apx_stores.specs.Whole.{FitsKeeper, IsCaused};
+ghost use Rattle.apx_stores.specs.Caused.{AreLater, IsCaused};
+ghost use Rattle.apx_stores.specs.Crashes.{IsDurable, IsSettled};
+ghost use Rattle.apx_stores.specs.Whole.{FitsKeeper, BeginsRight, counted};
 ghost use Rattle.apx_held.specs.Fits.{Fits};
-ghost use Rattle.apx_core.specs.Core.{telling};
+ghost use Rattle.apx_core.specs.Core.{telling, HasRunSaves};
 
 use apx_course::{CoreFault, Naming};
 use apx_device::{Keeper, Spool, Spools, Vault};
@@ -76,15 +79,26 @@ impl<K: Keeper + Drop, V: Vault + Drop, P: Spools + Drop, J: Naming> Core<K, V, 
         ensures same { self.now.stores.course.machine.fault ≡ status_of self.now.stores.course.fault }
         ensures small { IsSmall J.run.plan }
         ensures kept { Kept J.run.plan self.now.stores.course.machine }
-        ensures rows { IsTrue J.run.told → FitsKeeper J.run.job.flow (status_of self.now.stores.course.fault)
+        ensures rows { BeginsRight J.run K.tells → FitsKeeper J.run.job.flow (status_of self.now.stores.course.fault)
             self.now.stores.course.machine.stored (K.stored self.now.stores.keeper) }
         ensures last { self.now.stores.course.fault ≡ None → K.last self.now.stores.keeper ≡ self.now.stores.course.machine.stored }
         ensures is_sound { self.now.stores.course.fault ≡ None → IsTrue (K.sound self.now.stores.keeper) }
         ensures is_vault_sound { self.now.stores.course.fault ≡ None → IsTrue (V.sound self.now.stores.vault) }
         ensures caused { IfSome self.now.stores.course.fault
-            (IsCaused J.run (K.faults self.now.stores.keeper) (V.faults self.now.stores.vault) (P.faults self.now.stores.spools)) }
+            (IsCaused J.run.job J.run.told V.tells P.S.tells (counted J.run)
+            (record { keeper = K.faults self.now.stores.keeper; vault = V.faults self.now.stores.vault; spools = P.faults self.now.stores.spools })) }
+        ensures later { AreLater (counted J.run)
+            (record { keeper = K.faults self.now.stores.keeper; vault = V.faults self.now.stores.vault; spools = P.faults self.now.stores.spools }) }
         ensures fits { self.now.stores.course.fault ≡ None → Fits J.run.job (telling J.run V.tells)
             (entry_at (V.held self.now.stores.vault)) self.now.stores.course.machine self.now.held }
+        ensures saves { self.now.stores.course.fault ≡ None → IsTrue V.tells →
+            HasRunSaves J.run self.now.stores.course.machine (entry_at (V.held self.now.stores.vault)) }
+
+        // What a crash now leaves of the stores.
+        ensures durable { IsDurable J.run K.tells self.now.stores.course.machine.stored
+            (K.left self.now.stores.keeper (K.time self.now.stores.keeper)) }
+        ensures settled { running self.now.stores.course.machine ≡ true →
+            IsSettled V.tells V.time V.left V.held self.now.stores.vault }
     {
         self.stores.facts();
         let _ = &self.contents;

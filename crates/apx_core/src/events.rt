@@ -5,9 +5,12 @@ ghost use Rattle.apx_history.specs.Enabled.{can};
 ghost use Rattle.apx_history.specs.declared.Event.TheVariants.{Save, Advance, Commit, Purge, End};
 ghost use Rattle.apx_device.specs.Vault.{entries_from};
 ghost use Rattle.apx_course.specs.Course.{Did, Stops, StopsWith};
-ghost use Rattle.apx_stores.specs.Whole.{is_own};
+ghost use Rattle.apx_stores.specs.Caused.{IsCaused};
+ghost use Rattle.apx_stores.specs.Whole.{counted};
 ghost use Rattle.apx_held.specs.Holding.{holding, put_holding, dropped};
 ghost use Rattle.apx_held.specs.Fits.{save_id};
+ghost use Rattle.apx_stores.specs.Crashes.{EntriesFollow, NoPut};
+ghost use Rattle.apx_core.specs.Crashes.{IsOfRun};
 ghost use Rattle.apx_core.specs.Core.{IsSavedIn};
 
 use crate::cores::Core;
@@ -43,6 +46,8 @@ impl<K: Keeper + Drop, V: Vault + Drop, P: Spools + Drop, J: Naming> Core<K, V, 
         ensures vault { OnOk result (IsTrue V.tells →
             IsSavedIn (save_id id.op (oper self.old.stores.course.machine id.op).boundary id.part window)
             (holding self.old.held id.op id.part) (V.held self.old.stores.vault) (V.held self.new.stores.vault)) }
+        ensures crash { IsTrue V.tells → EntriesFollow (IsOfRun J.run.job J.run.told)
+            V.time V.left V.held self.old.stores.vault self.new.stores.vault }
         ensures keeper { self.new.stores.keeper ≡ self.old.stores.keeper }
         ensures spools { self.new.stores.spools ≡ self.old.stores.spools }
         ensures held { self.new.held ≡ self.old.held }
@@ -81,6 +86,7 @@ impl<K: Keeper + Drop, V: Vault + Drop, P: Spools + Drop, J: Naming> Core<K, V, 
             part: id.part,
             to,
         };
+        self.stores.facts();
         self.stores.pass(worker, event)
     }
 
@@ -91,10 +97,12 @@ impl<K: Keeper + Drop, V: Vault + Drop, P: Spools + Drop, J: Naming> Core<K, V, 
         ensures stops { OnErr result (Stops J.run.plan self.old.stores.course self.new.stores.course worker) }
         ensures dropped { OnOk result (IsTrue V.tells →
             V.held self.new.stores.vault ≡ entries_from (V.held self.old.stores.vault) to) }
+        ensures crash { IsTrue V.tells → EntriesFollow NoPut V.time V.left V.held self.old.stores.vault self.new.stores.vault }
         ensures keeper { self.new.stores.keeper ≡ self.old.stores.keeper }
         ensures spools { self.new.stores.spools ≡ self.old.stores.spools }
         ensures held { self.new.held ≡ self.old.held }
     {
+        self.stores.facts();
         self.stores.commit(worker, to)
     }
 
@@ -131,13 +139,15 @@ impl<K: Keeper + Drop, V: Vault + Drop, P: Spools + Drop, J: Naming> Core<K, V, 
         ensures spools { self.new.stores.spools ≡ self.old.stores.spools }
         ensures held { self.new.held ≡ self.old.held }
     {
+        self.stores.facts();
         self.stores.pass(worker, Event::End)
     }
 
-    /// The run stops with a fault that was met outside it: want of memory, or what is too large.
+    /// The run stops with a fault that was met outside it and has its cause: want of memory, or what is too large.
     pub fn fail(&mut self, worker: u8, fault: CoreFault<<P::S as Spool>::Fault>) -> Stopped
         requires runs { running self.old.stores.course.machine ≡ true }
-        requires own { is_own fault ≡ true }
+        requires cause { IsCaused J.run.job J.run.told V.tells P.S.tells (counted J.run)
+            (record { keeper = K.faults self.old.stores.keeper; vault = V.faults self.old.stores.vault; spools = P.faults self.old.stores.spools }) fault }
         ensures stops { StopsWith J.run.plan self.old.stores.course self.new.stores.course worker fault }
         ensures keeper { self.new.stores.keeper ≡ self.old.stores.keeper }
         ensures vault { self.new.stores.vault ≡ self.old.stores.vault }

@@ -1,8 +1,8 @@
 //! The begin of a core.
 ghost use Rattle.std.specs.Prelude.{◌≡◌, ◌≤◌, [], None, IsTrue, IfOk, IfErr};
-ghost use Rattle.apx_cause.specs.Cause.{Rose};
+ghost use Rattle.apx_cause.specs.Cause.{HasCause};
 ghost use Rattle.apx_history.specs.Journals.{beginning};
-ghost use Rattle.apx_pass.specs.Pass.{mean_up_to, windows};
+ghost use Rattle.apx_pass.specs.Pass.{windows};
 ghost use Rattle.apx_list.specs.Plan.{IsPlan as IsCut};
 ghost use Rattle.apx_job.specs.Job.{plan_of as plan_in_history};
 ghost use Rattle.apx_part.specs.Fed.{plan_in};
@@ -59,7 +59,7 @@ pub(crate) fn cuts_of<J: Naming>(job: &Arc<Job>) -> CutPlan
 
 impl<K: Keeper + Drop, V: Vault + Drop, P: Spools + Drop, J: Naming> Core<K, V, P, J> {
     /// The core of a run that begins from nothing, over a store that may have the first windows of the one pass. On a refusal
-    /// the devices come back.
+    /// the devices come back, and the maker of spools has counted no fewer faults.
     pub fn new(
         alloc: Global,
         job: Arc<Job>,
@@ -73,8 +73,9 @@ impl<K: Keeper + Drop, V: Vault + Drop, P: Spools + Drop, J: Naming> Core<K, V, 
         requires keeper { K.faults devices.keeper ≡ J.run.keeper }
         requires vault { V.faults devices.vault ≡ J.run.vault }
         requires spools { P.faults devices.spools ≡ J.run.spools }
-        requires tells { IsTrue J.run.told → IsTrue K.tells × IsTrue V.tells × IsTrue P.S.tells }
-        requires rows { IsTrue J.run.told → K.stored devices.keeper ≡ mean_up_to J.run.job.flow (K.last devices.keeper) }
+        requires tells { IsTrue J.run.told → IsTrue V.tells × IsTrue P.S.tells }
+        requires rows { IsTrue K.tells → J.run.rows ≡ K.stored devices.keeper }
+        requires entries { IsTrue V.tells → J.run.entries ≡ V.held devices.vault }
         requires is_sound { IsTrue (K.sound devices.keeper) }
         requires is_vault_sound { IsTrue (V.sound devices.vault) }
         ensures keeper { IfOk result (λ c. c.stores.keeper ≡ devices.keeper) }
@@ -84,7 +85,7 @@ impl<K: Keeper + Drop, V: Vault + Drop, P: Spools + Drop, J: Naming> Core<K, V, 
         ensures fault { IfOk result (λ c. c.stores.course.fault ≡ None) }
         ensures kept_keeper { IfErr result (λ r. r.0.keeper ≡ devices.keeper) }
         ensures kept_vault { IfErr result (λ r. r.0.vault ≡ devices.vault) }
-        ensures cause { IfErr result (λ r. r.1 ≡ StartFault.Spools → Rose (P.faults devices.spools) (P.faults r.0.spools)) }
+        ensures cause { IfErr result (λ r. HasCause (P.faults devices.spools) (P.faults r.0.spools) (r.1 ≡ StartFault.Spools)) }
     {
         let stored = devices.keeper.last();
         let Ok(course) = begun::<<P::S as Spool>::Fault, J>(alloc, &job, stored) else {

@@ -6,7 +6,9 @@ ghost use Rattle.apx_history.specs.declared.Event.TheVariants.{Kill, Repartition
 ghost use Rattle.apx_device.specs.Vault.{entry_at};
 ghost use Rattle.apx_course.specs.Course.{Did, Stops};
 ghost use Rattle.apx_renew.specs.Renewed.{KeepRenewed};
+ghost use Rattle.apx_stores.specs.Crashes.{EntriesFollow, NoPut};
 ghost use Rattle.apx_core.specs.Claim.{TakesClaim};
+ghost use Rattle.apx_core.specs.Crashes.{IsOfRun};
 
 use crate::claims::Claim;
 use crate::cores::Core;
@@ -26,6 +28,7 @@ impl<K: Keeper + Drop, V: Vault + Drop, P: Spools + Drop, J: Naming> Core<K, V, 
         ensures stops { OnErr result (Stops J.run.plan self.old.stores.course self.new.stores.course worker) }
         ensures keeper { self.new.stores.keeper ≡ self.old.stores.keeper }
         ensures vault { IsTrue V.tells → V.held self.new.stores.vault ≡ V.held self.old.stores.vault }
+        ensures crash { IsTrue V.tells → EntriesFollow NoPut V.time V.left V.held self.old.stores.vault self.new.stores.vault }
     {
         drop(claim);
         let event = Event::Kill { line };
@@ -51,6 +54,8 @@ impl<K: Keeper + Drop, V: Vault + Drop, P: Spools + Drop, J: Naming> Core<K, V, 
         ensures vault { OnOk result (IsTrue V.tells →
             KeepRenewed J.run.job J.run.told (line_at J.run.plan line).op (line_at J.run.plan line).window
             (count_or 0 (line_at J.run.plan line).act) (entry_at (V.held self.old.stores.vault)) (entry_at (V.held self.new.stores.vault))) }
+        ensures crash { IsTrue V.tells → EntriesFollow (IsOfRun J.run.job J.run.told)
+            V.time V.left V.held self.old.stores.vault self.new.stores.vault }
         ensures keeper { self.new.stores.keeper ≡ self.old.stores.keeper }
     {
         let event = Event::Repartition { line };

@@ -8,6 +8,7 @@ ghost use Rattle.apx_history.specs.Enabled.{can};
 ghost use Rattle.apx_core.specs.Claim.{IsOpenFor, IsWork};
 ghost use Rattle.apx_job.specs.Job.{plan_of as plan_in_history};
 ghost use Rattle.apx_device.specs.MemoryKeeper.{windows_of};
+ghost use Rattle.apx_device.specs.VaultsInMemory.{entries_of};
 
 use crate::{Claim, Closed, Core, CoreFault, Devices, Naming, StartFault, Stopped};
 use apx_dag::Dag;
@@ -29,13 +30,14 @@ use std::test::Fail;
 const COUNT: &str =
     r#"{"operators":[{"name":"in","class":"lines","properties":{"file":"in.txt","perWindow":1}},{"name":"tally","class":"count","attributes":{"PARTITIONS":2}},{"name":"out","class":"store"}],"streams":[{"name":"a","source":{"operatorName":"in","portName":"output"},"sinks":[{"operatorName":"tally","portName":"input"}]},{"name":"b","source":{"operatorName":"tally","portName":"output"},"sinks":[{"operatorName":"out","portName":"input"}]}]}"#;
 
-/// The job of four windows and a script, with a checkpoint each second window.
+/// The job of four windows and a script, with a checkpoint each second window. All blocks of a list but one are spilled.
 fn job_of(alloc: Global, script: &str) -> Result<Job, Fail> {
     let dag = Dag::of(alloc, read_app(alloc, COUNT.as_bytes())?)?;
     let mut inputs = Vec::new(alloc);
     inputs.push(windows(alloc, InputKind::Lines, 1, b"a\nb\na\nb\n")?)?;
     let mut settings = Settings::default();
     settings.every = 2;
+    settings.keep = 1;
     if inputs.len() != dag.inputs_before(dag.len()) {
         return Err("another number of inputs")?;
     }
@@ -204,7 +206,10 @@ fn drive<J: Naming>(
     requires keeper { J.run.keeper ≡ 0 }
     requires vault { J.run.vault ≡ 0 }
     requires spools { J.run.spools ≡ 0 }
+    requires rows { J.run.rows ≡ [] }
+    requires entries { J.run.entries ≡ [] }
     requires empty { windows_of devices.keeper ≡ [] }
+    requires unsaved { entries_of devices.vault ≡ [] }
 {
     let mut run = Core::<_, _, _, J>::new(alloc, job, devices)?;
     for _ in 0..200 {

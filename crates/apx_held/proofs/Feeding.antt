@@ -115,7 +115,7 @@ lent_some plan tells w group lists lent cut = windows_some plan w lists (λ j lt
     let is = lent.each j h in
     (is.tuples, subst (λ (p : CutPlan). SpellWindow p w (get_or lists j []) is.tuples) (cut j h) is.whole))
 
--- where all devices tell, it is what the source's partitions give
+-- where the checkpoint store and the spools tell, it is what the source's partitions give
 pub lent_all : (job : Job) (tells : Telling) (reads : Bool) (at : SaveId → Option (List ℕ)) (m : State) (hs : List (List Holding)) (s w : ℕ) (lists : List (List Block)) → Fits job tells at m hs
     → s < length m.ops → (s ≡ sink_of job.flow.nodes → ⊥) → ((j : ℕ) → IsPart m s j → ((slot m s j).floor < w) × (w ≤ (slot m s j).at))
     → boundary_of job s w ≡ (oper m s).boundary → length (oper m s).parts ≡ in_force job s w → IsTrue tells.all → IsTrue reads → AreLent reads w (get_or hs s []) lists → IsFed job w lists s

@@ -96,6 +96,17 @@ has_one v w h = by (v == w) refl h
     by true e h = grind (arith, nat_tests)
     by false e h = cc
 
+-- bytes that spell what a partition at home carries are its checkpoint
+pub spelled_saved : (job : Job) (told : Bool) (o b i w at : ℕ) (bytes : List ℕ) (s : Option Progress) → w ≡ at → IsSome s → (IsTrue told → IfSome s (λ g. g ≡ progress_at job o b i at))
+    → IfSome s (λ g. (bytes ≡ second_spelling g) × IsProgress g) → IsSaved job told o b i w (Some bytes)
+spelled_saved job told o b i w at bytes None now some state is = absurd (cc some)
+spelled_saved job told o b i w at bytes (Some g) now some state is = record {
+  progress = g;
+  spelled = ap Some is.0;
+  small = is.1;
+  named = λ t. state t ∙ ap (λ (k : ℕ). progress_at job o b i k) (sym now);
+}
+
 -- what is kept for a partition is there
 pub held_of : (job : Job) (tells : Telling) (at : SaveId → Option (List ℕ)) (m : State) (hs : List (List Holding)) (o i : ℕ) → Fits job tells at m hs → IsPart m o i → IsHeld hs o i
 held_of job tells at m hs o i fits part = let a = fits.ops in let b = fits.sizes o part.0 in (omega arith, omega arith)
@@ -183,22 +194,12 @@ module _ (job : Job) (tells : Telling) (at : SaveId → Option (List ℕ)) (m : 
       (λ t v pos h. elim (one_of (has (slot m o i).saved v) (has (w ∷ []) v) (sym (has-append (slot m o i).saved (w ∷ []) v) ∙ h)) [
         | inl old ↦ was t o i part v pos old
         | inr e ↦ subst (λ (k : ℕ). IsSaved job tells.all o (oper m o).boundary i k (at' (save_id o (oper m o).boundary i k))) (has_one w v e)
-            (subst (λ (found : Option (List ℕ)). IsSaved job tells.all o (oper m o).boundary i w found) (sym (put_is t)) (saved (holding hs o i).state (f.home closed) f.state is))
+            (subst (λ (found : Option (List ℕ)). IsSaved job tells.all o (oper m o).boundary i w found) (sym (put_is t)) (spelled_saved job tells.all o (oper m o).boundary i w (slot m o i).at bytes (holding hs o i).state now (f.home closed) f.state is))
       ])
       (λ t p j r n. was t p j r)
     where
       same_list : FitsList job tells.all o (oper m o).boundary i (slot m o i) (holding hs o i).list → FitsList job tells.all o (oper m o).boundary i (saves w (slot m o i)) (holding hs o i).list
       same_list l = record { cut = l.cut; floor = l.floor; top = l.top; whole = l.whole; named = l.named; spelled = l.spelled }
-
-      saved : (s : Option Progress) → IsSome s → (IsTrue tells.all → IfSome s (λ g. g ≡ progress_at job o (oper m o).boundary i (slot m o i).at))
-          → IfSome s (λ g. (bytes ≡ second_spelling g) × IsProgress g) → IsSaved job tells.all o (oper m o).boundary i w (Some bytes)
-      saved None some state is = absurd (cc some)
-      saved (Some g) some state is = record {
-        progress = g;
-        spelled = ap Some is.0;
-        small = is.1;
-        named = λ t. state t ∙ ap (λ (k : ℕ). progress_at job o (oper m o).boundary i k) (sym now);
-      }
 
       was : IsTrue tells.vault → (p j : ℕ) → IsPart m p j → FitsVault job tells.all at' p (oper m p).boundary j (slot m p j)
       was t p j r v pos h =

@@ -20,13 +20,13 @@ use Rattle.apx_held.specs.Partition.{progress_at, tuples_at, blocks_at, blocks_a
 
 -- which devices tell what they hold
 pub record Telling : Type 0 where
-  -- all of them do
+  -- the checkpoint store and the spools do
   pub all : Bool
-  -- the vault does
+  -- the checkpoint store does
   pub vault : Bool
 
--- A list has whole windows alone, as they are counted for the partition. Where all devices tell, its blocks are those of the
--- partition.
+-- A list has whole windows alone, as they are counted for the partition. Where the checkpoint store and the spools tell, its
+-- blocks are those of the partition.
 pub record FitsList (job : Job) (told : Bool) (o b i : ℕ) (x : Slot) (list : Listed Unnamed) : Type 0 where
   -- its windows are cut as the job's are
   pub cut : list.plan ≡ plan_in job
@@ -46,7 +46,7 @@ pub record FitsList (job : Job) (told : Bool) (o b i : ℕ) (x : Slot) (list : L
 pub record FitsPart (job : Job) (told : Bool) (o b i : ℕ) (x : Slot) (h : Holding) : Type 0 where
   -- where no window is open, its progress is at home
   pub home : x.opened ≡ None → IsSome h.state
-  -- where all devices tell, that is what the partition carries from its last window
+  -- where the checkpoint store and the spools tell, that is what the partition carries from its last window
   pub state : IsTrue told → IfSome h.state (λ g. g ≡ progress_at job o b i x.at)
   -- but for the sink there is a list
   pub list : (o ≡ sink_of job.flow.nodes → ⊥) → FitsList job told o b i x h.list
@@ -55,8 +55,8 @@ pub record FitsPart (job : Job) (told : Bool) (o b i : ℕ) (x : Slot) (h : Hold
 abbrev pub save_id : ℕ → ℕ → ℕ → ℕ → SaveId
 save_id o b i w = record { op = o; boundary = b; part = i; window = w }
 
--- What is found under the id of a checkpoint spells a progress that isn't large. Where all devices tell, that is what the
--- partition carries from the window.
+-- What is found under the id of a checkpoint spells a progress that isn't large. Where the checkpoint store and the spools
+-- tell, that is what the partition carries from the window.
 pub record IsSaved (job : Job) (told : Bool) (o b i w : ℕ) (found : Option (List ℕ)) : Type 0 where
   -- the progress
   pub progress : Progress

@@ -1,6 +1,7 @@
 //! What is kept for the partitions of all operators.
 ghost use Rattle.std.specs.Prelude.{◌≡◌, ℕ, ◌<◌, ◌≤◌, Some, None, [], length, map, get_or, set, IsSome, IfOk, IfErr, OnOk};
 ghost use Rattle.apx_tuple.specs.Progress.{progress_size};
+ghost use Rattle.apx_list.specs.Kept.{IsOfSpool};
 ghost use Rattle.apx_held.specs.Holding.{Holding, holding, put_holding, IsHeld, taken, brought, dropped, IsSpelled, AreNext};
 ghost use Rattle.apx_held.specs.Lent.{AreLent, CanLend, IsUnlent};
 
@@ -8,7 +9,7 @@ use crate::fault::LendFault;
 use crate::group::{Group, lend_all};
 use crate::held::Held;
 use apx_device::Spool;
-use apx_list::Block;
+use apx_list::{Block, ListFault};
 use apx_tuple::Progress;
 use std::alloc::{AllocError, Global};
 use std::marker::Model;
@@ -92,6 +93,17 @@ impl<S: Spool + Drop> Contents<S> {
     {
         let group = &self.groups[op];
         group.spelled(alloc, part)
+    }
+
+    /// Moves all blocks of a partition but the newest `keep` to its spool. What is kept stays, also where the spool fails: the
+    /// fault is the spool's, or want of memory.
+    pub fn spill(&mut self, op: usize, part: usize, keep: usize) -> Result<(), ListFault<S::Fault>>
+        requires { IsHeld self.old op part }
+        ensures same { self.new ≡ self.old }
+        ensures cause { IfErr result IsOfSpool }
+    {
+        let group = &mut self.groups[op];
+        group.spill(part, keep)
     }
 
     /// Drops the blocks of a partition of the windows up to one.

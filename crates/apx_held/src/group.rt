@@ -1,6 +1,7 @@
 //! What is kept for the partitions of one operator.
 ghost use Rattle.std.specs.Prelude.{◌≡◌, ℕ, Bool, List, ◌<◌, ◌≤◌, [], ◌∷◌, ◌++◌, map, Some, None, length, get_or, set, IsSome, IfOk, IfErr, OnOk};
 ghost use Rattle.apx_tuple.specs.Progress.{progress_size};
+ghost use Rattle.apx_list.specs.Kept.{IsOfSpool};
 ghost use Rattle.apx_held.specs.Holding.{Holding, no_holding, taken, brought, dropped, IsSpelled, AreNext};
 ghost use Rattle.apx_held.specs.Lent.{IsLent, AreLent, CanLend, IsUnlent};
 
@@ -88,6 +89,16 @@ impl<S: Spool + Drop> Group<S> {
     {
         let it = &self.parts[part];
         it.spelled(alloc)
+    }
+
+    /// Moves all blocks of a partition but the newest `keep` to its spool.
+    pub(crate) fn spill(&mut self, part: usize, keep: usize) -> Result<(), ListFault<S::Fault>>
+        requires { part < length self.old }
+        ensures same { self.new ≡ self.old }
+        ensures cause { IfErr result IsOfSpool }
+    {
+        let it = &mut self.parts[part];
+        it.spill(keep)
     }
 
     /// Drops a partition's blocks of the windows up to one.

@@ -1,6 +1,7 @@
 //! What is kept for one partition.
 ghost use Rattle.std.specs.Prelude.{◌≡◌, ◌<◌, ◌≤◌, Some, length, IsSome, IfOk, IfErr, OnOk};
 ghost use Rattle.apx_tuple.specs.Progress.{progress_size};
+ghost use Rattle.apx_list.specs.Kept.{IsOfSpool};
 ghost use Rattle.apx_list.specs.Plan.{IsPlan};
 ghost use Rattle.apx_held.specs.Holding.{empty_list, with_blocks, taken, brought, dropped, IsSpelled, AreNext};
 ghost use Rattle.apx_held.specs.Lent.{IsLent, CanLend, IsOfList};
@@ -99,6 +100,14 @@ impl<S: Spool + Drop> Held<S> {
             }
             None => unreachable!(),
         }
+    }
+
+    /// Moves all blocks but the newest `keep` to the spool.
+    pub(crate) fn spill(&mut self, keep: usize) -> Result<(), ListFault<S::Fault>>
+        ensures same { self.new ≡ self.old }
+        ensures cause { IfErr result IsOfSpool }
+    {
+        self.list.spill(keep)
     }
 
     /// Drops the blocks of the windows up to one.

@@ -56,6 +56,7 @@ fn a_window_is_lent_until_it_is_dropped(rt: HostRuntime) -> Result<(), Fail> {
     let progress = contents.take(0, 0);
     let blocks = cut(alloc, &PLAN, 1, &long_keys(alloc)?)?;
     contents.bring(0, 0, progress, blocks)?;
+    contents.spill(0, 0, 1)?;
     let lists = contents.lend(alloc, 0, 1)?;
     assert_eq!(rt; lists.len(), 1);
     assert_eq!(rt; lists[0].len(), 4);

@@ -5,6 +5,8 @@ pub mod Going
 pub mod Performing
 pub mod Picking
 pub mod Saving
+pub mod Ascending
+pub mod Listing
 pub mod Saved
 pub mod Making
 pub mod Keeping

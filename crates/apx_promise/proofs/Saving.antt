@@ -88,7 +88,7 @@ any_by p (l ∷ ls) (suc k) low h = by (p l) (any_by p ls k (omega arith) h)
     by false r = r
 
 -- a boundary is 0 or the window of a repartition before
-boundary_is : (o w : ℕ) (ls : List Line) → (boundary_in ls o w ≡ 0)
+pub boundary_is : (o w : ℕ) (ls : List Line) → (boundary_in ls o w ≡ 0)
     ⊎ ((k : ℕ) × (k < length ls) × (splits_op o (get_or ls k no_line) ≡ true) × ((get_or ls k no_line).window ≡ boundary_in ls o w) × (boundary_in ls o w < w))
 unfolding boundary_in
 boundary_is o w [] = inl refl

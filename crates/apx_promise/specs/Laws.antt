@@ -1,5 +1,6 @@
 -- What is proved of every history, for every plan of a job and every start: the laws.
-use Rattle.std.specs.Prelude.{◌≡◌, ℕ, ◌<◌, ◌≤◌, ◌⊎◌, Bool, true, List, ◌++◌, Contains, Option}
+use Rattle.std.specs.Prelude.{◌≡◌, ℕ, ◌<◌, ◌≤◌, ◌⊎◌, Bool, true, List, ◌++◌, Contains, Option, map}
+use Rattle.std.specs.List.Sorted.{IsStrictlySortedBy}
 use Rattle.apx_device.specs.declared.vault.SaveId.{SaveId}
 use Rattle.apx_device.specs.Vault as vault
 use Rattle.apx_history.specs.declared.Entry.{Entry}
@@ -62,6 +63,10 @@ OneIsPicked = (plan : Plan) (word : ℕ → ℕ) (s c : ℕ) (es fs : List Entry
 abbrev pub LastSavesAreExact : Type 0
 LastSavesAreExact = (plan : Plan) (id : SaveId) → IsPlan plan →
     (Contains (last_saves plan) id → IsLastSave plan id) × (IsLastSave plan id → Contains (last_saves plan) id)
+
+-- The list is in the order of its ids, each once.
+abbrev pub LastSavesAscend : Type 0
+LastSavesAscend = (plan : Plan) → IsStrictlySortedBy vault.save_order (last_saves plan)
 
 -- When a run has ended, the last checkpoints are what must be there, and all that may be there.
 abbrev pub LastAreSaved : Type 0
@@ -135,3 +140,8 @@ abbrev pub LastAtEnd : Type 0
 LastAtEnd = (right : SaveId → List ℕ → Bool) (plan : Plan) (s c : ℕ) (es : List Entry) (at : SaveId → Option (List ℕ)) →
     IsHistory plan s c es → EndsWith End es → HasSaved (Passes right) plan (state_after plan s c es) at →
     HasNoMore (Passes right) plan (state_after plan s c es) at → HasLastSaves (Passes right) plan at
+
+-- A store of which a look-up finds the last checkpoints and no other, each with its bytes, is the list of these.
+abbrev pub LastIsTheList : Type 0
+LastIsTheList = (plan : Plan) (bytes : SaveId → List ℕ) (entries : List vault.Entry) → IsPlan plan → vault.IsInOrder entries →
+    HasLastSaves (λ id found. found ≡ bytes id) plan (vault.entry_at entries) → entries ≡ map (λ id. (id, bytes id)) (last_saves plan)

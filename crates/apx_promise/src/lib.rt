@@ -8,7 +8,7 @@
 //! The functions do nothing: each states a law in its contract.
 #![tactic(auto)]
 
-ghost use Rattle.apx_promise.specs.Laws.{AllStoreInOrder, AllFindWhatTheyRead, AllEndWhatTheyBegan, AllGoOn, EndedAreDone, PicksAreHistories, SomeIsPicked, PicksAreFronts, OneIsPicked, LastSavesAreExact, LastAreSaved, SavesAreMade, MadeMayBe, NoneAtFirst, SavedStays, NoMoreStays, SavedAtFirst, LastAtEnd, PutIsSave, PutsAreRepartition, DropIsCommit, OthersLeave};
+ghost use Rattle.apx_promise.specs.Laws.{AllStoreInOrder, AllFindWhatTheyRead, AllEndWhatTheyBegan, AllGoOn, EndedAreDone, PicksAreHistories, SomeIsPicked, PicksAreFronts, OneIsPicked, LastSavesAreExact, LastSavesAscend, LastAreSaved, SavesAreMade, MadeMayBe, NoneAtFirst, SavedStays, NoMoreStays, SavedAtFirst, LastAtEnd, LastIsTheList, PutIsSave, PutsAreRepartition, DropIsCommit, OthersLeave};
 
 /// The windows are stored one after the other, each once, from the first that the store hadn't yet.
 pub fn windows_are_stored_in_order()
@@ -45,10 +45,11 @@ pub fn orders_pick_one_history()
     ensures one { OneIsPicked }
 {}
 
-/// The checkpoints that are there when a run has ended are those in the list of the last ones: a run must have saved each of
-/// them, and no other may be left.
+/// The checkpoints that are there when a run has ended are those in the list of the last ones, which is in the order of their
+/// ids: a run must have saved each of them, and no other may be left.
 pub fn last_checkpoints_are_left()
     ensures listed { LastSavesAreExact }
+    ensures ordered { LastSavesAscend }
     ensures saved { LastAreSaved }
 {}
 
@@ -61,12 +62,14 @@ pub fn checkpoints_are_made_by_events()
 {}
 
 /// A checkpoint store that each event changes by what it makes and drops has at every moment what must be saved, and no more
-/// than what may be there where it began with nothing. So at the end it has the last checkpoints, and no other.
+/// than what may be there where it began with nothing. So at the end it has the last checkpoints, and no other: its entries are
+/// their list.
 pub fn stores_keep_checkpoints()
     ensures saved { SavedStays }
     ensures no_more { NoMoreStays }
     ensures first { SavedAtFirst }
     ensures last { LastAtEnd }
+    ensures list { LastIsTheList }
 {}
 
 /// What the calls of a checkpoint store leave of its entries is what the events ask for: one put for a Save, one for each new

@@ -55,7 +55,7 @@ module _ (job : Job) (told : Bool) (o b : ℕ) where
           let at_made : made ≡ i = omega (arith, behind, lt) in
           subst (λ (j : ℕ). IsSaved job told o b j b (new (save_id o b j b))) at_made last
     ];
-    others = λ id n. same id (λ is. n (ap (λ (d : SaveId). d.op) is) (ap (λ (d : SaveId). d.boundary) is)) ∙ kept.others id n;
+    others = λ id n. same id (n made (omega arith)) ∙ kept.others id (λ i lt. n i (omega (arith, lt)));
   }
 
 -- none is made at first
@@ -69,4 +69,4 @@ kept_none job told o b old = record { saved = λ i lt. absurd (omega (arith, lt)
 pub fits_renewed : (job : Job) (tells : Telling) (at at' : SaveId → Option (List ℕ)) (m : State) (hs : List (List Holding)) → Fits job tells at m hs → (l o b n : ℕ) → o < length m.ops → (group : List Holding)
     → AreRenewed job tells.all o b n group → (IsTrue tells.vault → KeepRenewed job tells.all o b n at at') → Fits job tells at' (meet l (split o b n m)) (set hs o group)
 fits_renewed job tells at at' m hs fits l o b n there group are kept =
-    fits_split job tells at at' m hs fits l o b n there group are.count are.each (λ t j lt pos. (kept t).saved j lt) (λ t id ne. (kept t).others id (λ e _. ne e))
+    fits_split job tells at at' m hs fits l o b n there group are.count are.each (λ t j lt pos. (kept t).saved j lt) (λ t id ne. (kept t).others id (λ i lt is. ne (ap (λ (d : SaveId). d.op) is)))

@@ -13,9 +13,9 @@ pub record AreRenewed (job : Job) (told : Bool) (o b made : ℕ) (group : List H
   -- each fits a partition that has just begun behind the boundary
   pub each : (i : ℕ) → i < made → FitsPart job told o b i (fresh b) (get_or group i no_holding)
 
--- the store has the checkpoints of so many of them, and what it had of other operators and other epochs
+-- the store has the checkpoints of so many of them, and what it had under all other ids
 pub record KeepRenewed (job : Job) (told : Bool) (o b made : ℕ) (old new : SaveId → Option (List ℕ)) : Type 0 where
   -- the checkpoints
   pub saved : (i : ℕ) → i < made → IsSaved job told o b i b (new (save_id o b i b))
-  -- those of other operators and epochs
-  pub others : (id : SaveId) → (id.op ≡ o → id.boundary ≡ b → ⊥) → new id ≡ old id
+  -- what it had under other ids
+  pub others : (id : SaveId) → ((i : ℕ) → i < made → id ≡ save_id o b i b → ⊥) → new id ≡ old id

@@ -16,7 +16,7 @@ module _ (plan : Plan) (job : Job) (is : plan ≡ plan_of job) where
   pub windows_are : plan.windows ≡ windows job.flow
   windows_are = ap (λ (p : Plan). p.windows) is
 
-  operators_are : length plan.operators ≡ length job.flow.nodes
+  pub operators_are : length plan.operators ≡ length job.flow.nodes
   operators_are = ap (λ (p : Plan). length p.operators) is ∙ length-map-range_with_len (operator_in job.flow.nodes) 0 (length job.flow.nodes)
 
   operator_is : (o : ℕ) → o < length job.flow.nodes → operator plan o ≡ operator_in job.flow.nodes o

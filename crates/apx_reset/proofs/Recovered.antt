@@ -4,6 +4,9 @@ use Rattle.std.specs.Prelude.{IfOk}
 use Rattle.apx_device.specs.declared.vault.SaveId.{SaveId}
 use Rattle.apx_device.specs.Vault.{Entry, entry_at, bytes_at}
 use Rattle.apx_pass.specs.Job.{Job}
+use Rattle.apx_statebytes.specs.declared.fault.StateFault.{StateFault}
+use Rattle.apx_statebytes.specs.declared.fault.StateFault.TheVariants.{Bad, Memory}
+use Rattle.apx_statebytes.specs.Reading.{Gives}
 use Rattle.apx_statebytes.specs.Spelling.{Spells, IsProgress}
 use Rattle.apx_tuple.specs.declared.progress.Progress.{Progress}
 use Rattle.apx_held.specs.Fits.{IsSaved}
@@ -20,3 +23,8 @@ pub carried_back : {E : Type 0} (r : Result Progress E) (job : Job) (told : Bool
     → IsTrue told → IfOk r (λ g. g ≡ progress_at job id.op id.boundary id.part id.window)
 carried_back r job told entries id bytes read only saved t =
     ok_as r saved.progress (progress_at job id.op id.boundary id.part id.window) (only saved.progress saved.small (saved_spells job told entries id bytes saved read)) (saved.named t)
+
+-- what is refused for its bytes isn't read
+pub refused : (fault : StateFault) (at : ℕ) (x : Progress) → fault ≡ Bad at → Gives (λ (y : Progress). y) (Err fault) (Ok x) → ⊥
+refused (Bad place) at x is h = absurd (cc h)
+refused Memory at x is h = absurd (cc is)

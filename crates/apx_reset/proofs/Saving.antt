@@ -14,6 +14,10 @@ use Rattle.apx_held.specs.Holding.{Holding, empty_list}
 use Rattle.apx_held.specs.Partition.{progress_at}
 use Rattle.apx_renew.specs.Renewed.{AreRenewed, KeepRenewed}
 use Rattle.apx_renew.proofs.Group.{kept_more, renewed_more, fits_fresh}
+use Rattle.apx_course.specs.Run.{Run}
+use Rattle.apx_stores.specs.Crashes.{EntriesFollow}
+use Rattle.apx_stores.proofs.Crashing.{entries_go_on, entries_weaker}
+use Rattle.apx_reset.specs.Put.{IsProgressPut, IsRenewal}
 use Rattle.apx_reset.proofs.Killing.{behind}
 
 module _ (job : Job) (told : Bool) (o b : ℕ) where
@@ -29,6 +33,22 @@ module _ (job : Job) (told : Bool) (o b : ℕ) where
 pub begun_here : (first : SaveId) (n k : ℕ) → first.window ≡ first.boundary → k ≡ n → save_id first.op first.boundary k first.window ≡ save_id first.op first.boundary n first.boundary
 begun_here first n k window part =
     ap (λ (w : ℕ). save_id first.op first.boundary k w) window ∙ ap (λ (j : ℕ). save_id first.op first.boundary j first.boundary) part
+
+-- the checkpoint of a partition that begins the epoch is put
+pub renewal_put : (run : Run) {V : Type 0} (time : V → ℕ) (left : V → ℕ → List Entry → Type 0) (held : V → List Entry) (first : SaveId) (n k all : ℕ) (g : Progress) (old mid new : V)
+    → n < all → first.window ≡ first.boundary → k ≡ n → (IsTrue run.told → g ≡ progress_at run.job first.op first.boundary n first.boundary)
+    → EntriesFollow (IsRenewal run first.op first.boundary all) time left held old mid
+    → EntriesFollow (IsProgressPut (save_id first.op first.boundary k first.window) g) time left held mid new
+    → EntriesFollow (IsRenewal run first.op first.boundary all) time left held old new
+renewal_put run time left held first n k all g old mid new few window part named follow put =
+    entries_go_on time left held (IsRenewal run first.op first.boundary all) old mid new follow
+    (entries_weaker time left held (IsRenewal run first.op first.boundary all) (IsProgressPut (save_id first.op first.boundary k first.window) g)
+    (λ id bytes is. record {
+      part = n;
+      few = few;
+      at = is.at ∙ begun_here first n k window part;
+      saved = record { progress = g; spelled = ap Some is.bytes; small = is.small; named = named };
+    }) mid new put)
 
 -- one partition more
 pub one_more : (job : Job) (told : Bool) (o b w made : ℕ) (group all : List Holding) (g : Progress) (h : Holding) (cuts : CutPlan) → AreRenewed job told o b made group → cuts ≡ plan_in job → w ≡ b

@@ -1,5 +1,5 @@
 -- What an operator carried, in the partitions of one epoch and of the next.
-use Rattle.std.proofs.Common.{◌≡◌, ℕ, ◌<◌, ◌≤◌, Bool, true, List, length, get_or, Option, sym, ap, subst, ◌∙◌, arith}
+use Rattle.std.proofs.Common.{◌≡◌, ℕ, zero, suc, ◌<◌, ◌≤◌, inl, inr, Bool, true, List, length, get_or, Option, sym, ap, subst, ◌∙◌, arith}
 use Rattle.std.proofs.lemmas.List.FromFn.{get_or-map-range_with_len, length-map-range_with_len}
 use Rattle.apx_device.specs.declared.vault.SaveId.{SaveId}
 use Rattle.apx_device.specs.Vault.{Entry, entry_at}
@@ -15,19 +15,23 @@ use Rattle.apx_history.proofs.Frames.{line_there, op_there, some_part}
 use Rattle.apx_history.proofs.Legal.{can_facts}
 use Rattle.apx_machine.specs.Small.{IsSmall}
 use Rattle.apx_machine.proofs.Few.{parts_few}
-use Rattle.apx_pass.specs.Pass.{at_start, progress_after}
+use Rattle.apx_pass.specs.Large.{IsLargeDataflow}
+use Rattle.apx_pass.specs.Pass.{Dataflow, at_start, progress_after, windows}
 use Rattle.apx_pass.specs.Job.{Job}
 use Rattle.apx_rules.specs.Parts.{of_parts}
 use Rattle.apx_shares.specs.Carried.{cut_progress, merge_progress}
 use Rattle.apx_shares.specs.Laws.{IsOrdered}
+use Rattle.apx_shares.proofs.Merging.{cuts-merge}
 use Rattle.apx_shares.proofs.Ordered.{carried-is-ordered}
 use Rattle.apx_tuple.specs.declared.progress.Progress.{Progress}
+use Rattle.apx_tuple.specs.Progress.{IsLargeProgress}
 use Rattle.apx_held.specs.Fits.{save_id, IsSaved, AreSaved}
 use Rattle.apx_held.specs.Holding.{Holding}
 use Rattle.apx_held.specs.Partition.{parts_from, progress_at}
 use Rattle.apx_renew.specs.Owned.{owned_of, repartitioned}
 use Rattle.apx_renew.specs.Renewed.{AreRenewed, KeepRenewed}
 use Rattle.apx_renew.proofs.Group.{carried_cuts}
+use Rattle.apx_renew.proofs.Splitting.{owned_cuts}
 use Rattle.apx_reset.proofs.Planned.{split_number}
 
 -- what the partitions of an epoch carried are cuts of what the operator carried
@@ -114,3 +118,21 @@ moved_carried job o b w from to last first parts cuts last_is first_is was is co
     let carried' : parts ≡ of_parts from (λ j. progress_at job o b j w) = carried ∙ ap (λ (d : SaveId). of_parts from (λ j. progress_at job d.op d.boundary j d.window)) last_is in
     let moved = whole (progress_after job.flow w o) (carried-is-ordered job.flow w o) (were_cuts job o b w from parts was count carried') in
     are_cuts job o w w to cuts is moved i lt ∙ ap (λ (d : SaveId). progress_at job d.op d.boundary i d.window) (sym first_is)
+
+-- ---- what is too large
+
+-- what an operator carries from a window of the dataflow is too large only where that is
+pub carried_large : (flow : Dataflow) (v o : ℕ) → v ≤ windows flow → o < length flow.nodes → IsLargeProgress (progress_after flow v o) → IsLargeDataflow flow
+unfolding progress_after
+carried_large flow zero o within there h = absurd (omega (arith, h))
+carried_large flow (suc u) o within there h = record { passed = u; within = omega (arith, within); operator = o; there = there; is = record { is = inr (inr (inl h)) } }
+
+-- so is what comes of the checkpoints of all partitions of an epoch
+pub moved_large : (job : Job) (o b w from : ℕ) (last : SaveId) (parts : List Progress) → last ≡ save_id o b 0 w → from ≡ parts_from job o b → length parts ≡ from → 1 ≤ from
+    → parts ≡ of_parts from (λ i. progress_at job last.op last.boundary i last.window) → w ≤ windows job.flow → o < length job.flow.nodes
+    → IsLargeProgress (merge_progress (owned_of parts)) → IsLargeDataflow job.flow
+moved_large job o b w from last parts last_is was count some carried within there large =
+    let carried' : parts ≡ of_parts from (λ j. progress_at job o b j w) = carried ∙ ap (λ (d : SaveId). of_parts from (λ j. progress_at job d.op d.boundary j d.window)) last_is in
+    let g = progress_after job.flow w o in
+    let whole : merge_progress (owned_of parts) ≡ g = ap merge_progress (owned_cuts parts g (were_cuts job o b w from parts was count carried')) ∙ cuts-merge (length parts) (omega (arith, count, some)) g (carried-is-ordered job.flow w o) in
+    carried_large job.flow w o within there (subst (λ (x : Progress). IsLargeProgress x) whole large)

@@ -21,3 +21,12 @@ abbrev pub IsUnmoved : {F : Type 0} → List Progress → CoreFault F → Type 0
 IsUnmoved parts Large = IsLargeProgress (merge_progress (owned_of parts))
 IsUnmoved parts Memory = ⊤
 IsUnmoved parts why = ⊥
+
+-- the bytes spell a progress
+pub record SpellOne (bytes : List ℕ) : Type 0 where
+  -- the progress
+  pub progress : Progress
+  -- it isn't large
+  pub is : IsProgress progress
+  -- they spell it
+  pub spelled : Spells bytes progress

@@ -8,6 +8,7 @@ ghost use Rattle.apx_list.specs.Plan.{IsPlan as IsCut};
 ghost use Rattle.apx_job.specs.Job.{plan_of};
 ghost use Rattle.apx_part.specs.Fed.{plan_in};
 ghost use Rattle.apx_course.specs.Course.{Stops};
+ghost use Rattle.apx_stores.specs.Crashes.{EntriesFollow, NoPut};
 ghost use Rattle.apx_held.specs.Fits.{AreSaved};
 ghost use Rattle.apx_held.specs.Partly.{Partly};
 ghost use Rattle.apx_reset.specs.Kept.{FitsRun};
@@ -65,6 +66,7 @@ fn reset_part<K: Keeper + Drop, V: Vault + Drop, P: Spools + Drop, J: Naming>(
     ensures course { OnOk result (stores.new.course ≡ stores.old.course) }
     ensures stops { OnErr result (Stops J.run.plan stores.old.course stores.new.course worker) }
     ensures held { IsTrue V.tells → V.held stores.new.vault ≡ V.held stores.old.vault }
+    ensures crash { IsTrue V.tells → EntriesFollow NoPut V.time V.left V.held stores.old.vault stores.new.vault }
     ensures keeper { stores.new.keeper ≡ stores.old.keeper }
 {
     stores.facts();
@@ -107,8 +109,10 @@ fn reset_group<K: Keeper + Drop, V: Vault + Drop, P: Spools + Drop, J: Naming>(
     ensures course { OnOk result (stores.new.course ≡ stores.old.course) }
     ensures stops { OnErr result (Stops J.run.plan stores.old.course stores.new.course worker) }
     ensures held { IsTrue V.tells → V.held stores.new.vault ≡ V.held stores.old.vault }
+    ensures crash { IsTrue V.tells → EntriesFollow NoPut V.time V.left V.held stores.old.vault stores.new.vault }
     ensures keeper { stores.new.keeper ≡ stores.old.keeper }
 {
+    stores.facts();
     for part in 0..partitions(stores, op) {
         reset_part(
             alloc,
@@ -148,8 +152,10 @@ pub fn reset_tree<K: Keeper + Drop, V: Vault + Drop, P: Spools + Drop, J: Naming
     ensures course { OnOk result (stores.new.course ≡ stores.old.course) }
     ensures stops { OnErr result (Stops J.run.plan stores.old.course stores.new.course worker) }
     ensures held { IsTrue V.tells → V.held stores.new.vault ≡ V.held stores.old.vault }
+    ensures crash { IsTrue V.tells → EntriesFollow NoPut V.time V.left V.held stores.old.vault stores.new.vault }
     ensures keeper { stores.new.keeper ≡ stores.old.keeper }
 {
+    stores.facts();
     for op in 0..operators(stores) {
         reset_group(alloc, cuts, stores, contents, worker, line, op)?;
     }

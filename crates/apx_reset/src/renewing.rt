@@ -8,9 +8,11 @@ ghost use Rattle.apx_part.specs.Fed.{plan_in};
 ghost use Rattle.apx_statebytes.specs.Spelling.{second_spelling, IsProgress};
 ghost use Rattle.apx_tuple.specs.Progress.{progress_size};
 ghost use Rattle.apx_course.specs.Course.{Stops};
+ghost use Rattle.apx_stores.specs.Crashes.{EntriesFollow};
 ghost use Rattle.apx_held.specs.Holding.{empty_list};
 ghost use Rattle.apx_held.specs.Partition.{progress_at};
 ghost use Rattle.apx_renew.specs.Renewed.{AreRenewed, KeepRenewed};
+ghost use Rattle.apx_reset.specs.Put.{IsProgressPut, IsRenewal};
 
 use apx_course::{CoreFault, Naming, Stopped};
 use apx_device::{Keeper, SaveId, Spools, Vault};
@@ -54,10 +56,12 @@ fn save<K: Keeper + Drop, V: Vault + Drop, P: Spools + Drop, J: Naming>(
     ensures progress { OnOk result (IsProgress progress.now) }
     ensures held { OnOk result (IsTrue V.tells →
         V.held stores.new.vault ≡ with_entry (V.held stores.old.vault) id (second_spelling progress.now)) }
+    ensures crash { IsTrue V.tells → EntriesFollow (IsProgressPut id progress.now) V.time V.left V.held stores.old.vault stores.new.vault }
     ensures course { OnOk result (stores.new.course ≡ stores.old.course) }
     ensures stops { OnErr result (Stops J.run.plan stores.old.course stores.new.course worker) }
     ensures keeper { stores.new.keeper ≡ stores.old.keeper }
 {
+    stores.facts();
     match encode(alloc, progress) {
         Ok(bytes) => stores.keep(worker, id, &bytes),
         Err(_) => Err(stores.stop(worker, CoreFault::Memory)),
@@ -81,6 +85,7 @@ fn renew_part<K: Keeper + Drop, V: Vault + Drop, P: Spools + Drop, J: Naming>(
     ensures progress { OnOk result (IsProgress progress) }
     ensures held { OnOk result (IsTrue V.tells →
         V.held stores.new.vault ≡ with_entry (V.held stores.old.vault) id (second_spelling progress)) }
+    ensures crash { IsTrue V.tells → EntriesFollow (IsProgressPut id progress) V.time V.left V.held stores.old.vault stores.new.vault }
     ensures course { OnOk result (stores.new.course ≡ stores.old.course) }
     ensures stops { OnErr result (Stops J.run.plan stores.old.course stores.new.course worker) }
     ensures keeper { stores.new.keeper ≡ stores.old.keeper }
@@ -112,10 +117,13 @@ pub(crate) fn renew_parts<K: Keeper + Drop, V: Vault + Drop, P: Spools + Drop, J
         AreRenewed J.run.job J.run.told first.op first.boundary (length parts.items) group.items) }
     ensures kept { OnOk result (IsTrue V.tells → KeepRenewed J.run.job J.run.told first.op first.boundary (length parts.items)
         (entry_at (V.held stores.old.vault)) (entry_at (V.held stores.new.vault))) }
+    ensures crash { IsTrue V.tells → EntriesFollow (IsRenewal J.run first.op first.boundary (length parts.items))
+        V.time V.left V.held stores.old.vault stores.new.vault }
     ensures course { OnOk result (stores.new.course ≡ stores.old.course) }
     ensures stops { OnErr result (Stops J.run.plan stores.old.course stores.new.course worker) }
     ensures keeper { stores.new.keeper ≡ stores.old.keeper }
 {
+    stores.facts();
     let mut group = Vec::new(alloc);
     for progress in parts {
         let id = SaveId {

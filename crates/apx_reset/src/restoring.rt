@@ -6,9 +6,10 @@ ghost use Rattle.apx_statebytes.specs.Spelling.{Spells, IsProgress};
 ghost use Rattle.apx_tuple.specs.declared.progress.Progress.{Progress};
 ghost use Rattle.apx_tuple.specs.Progress.{progress_size};
 ghost use Rattle.apx_course.specs.Course.{Stops};
+ghost use Rattle.apx_stores.specs.Crashes.{EntriesFollow, NoPut};
 ghost use Rattle.apx_held.specs.Fits.{IsSaved};
 ghost use Rattle.apx_held.specs.Partition.{progress_at};
-ghost use Rattle.apx_reset.specs.Refused.{IsUnspelled};
+ghost use Rattle.apx_reset.specs.Refused.{IsUnspelled, SpellOne};
 
 use apx_course::{CoreFault, Naming, Stopped};
 use apx_device::{Keeper, SaveId, Spools, Vault};
@@ -17,7 +18,7 @@ use apx_stores::Stores;
 use apx_tuple::Progress;
 use std::alloc::Global;
 
-/// The progress that the bytes of a checkpoint spell.
+/// The progress that the bytes of a checkpoint spell. A checkpoint store that tells gives bytes that spell one.
 fn spelled<K: Keeper + Drop, V: Vault + Drop, P: Spools + Drop, J: Naming>(
     alloc: Global,
     stores: &mut Stores<K, V, P, J>,
@@ -25,7 +26,8 @@ fn spelled<K: Keeper + Drop, V: Vault + Drop, P: Spools + Drop, J: Naming>(
     id: SaveId,
     bytes: Vec<u8>,
 ) -> Result<Progress, Stopped>
-    requires { running stores.old.course.machine ≡ true }
+    requires runs { running stores.old.course.machine ≡ true }
+    requires spell { IsTrue V.tells → SpellOne bytes.items }
     ensures small { IfOk result (λ g. progress_size g < 4294967232) }
     ensures only { (g : Progress) → IsProgress g → Spells bytes.items g → IfOk result (λ x. x ≡ g) }
     ensures same { OnOk result (stores.new ≡ stores.old) }
@@ -56,12 +58,13 @@ pub(crate) fn restored<K: Keeper + Drop, V: Vault + Drop, P: Spools + Drop, J: N
     ensures course { OnOk result (stores.new.course ≡ stores.old.course) }
     ensures stops { OnErr result (Stops J.run.plan stores.old.course stores.new.course worker) }
     ensures held { IsTrue V.tells → V.held stores.new.vault ≡ V.held stores.old.vault }
+    ensures crash { IsTrue V.tells → EntriesFollow NoPut V.time V.left V.held stores.old.vault stores.new.vault }
     ensures keeper { stores.new.keeper ≡ stores.old.keeper }
 {
+    stores.facts();
     if id.window == 0 {
         return Ok(Progress::new(alloc));
     }
-    stores.facts();
     let bytes = stores.fetch(alloc, worker, id)?;
     spelled(alloc, stores, worker, id, bytes)
 }

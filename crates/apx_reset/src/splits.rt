@@ -11,16 +11,19 @@ ghost use Rattle.apx_pass.specs.Pass.{at_start};
 ghost use Rattle.apx_rules.specs.Parts.{of_parts};
 ghost use Rattle.apx_job.specs.Job.{plan_of};
 ghost use Rattle.apx_part.specs.Fed.{plan_in};
-ghost use Rattle.apx_shares.specs.Carried.{cut_progress};
+ghost use Rattle.apx_shares.specs.Carried.{cut_progress, merge_progress};
 ghost use Rattle.apx_shares.specs.Laws.{IsOrdered};
 ghost use Rattle.apx_tuple.specs.declared.progress.Progress.{Progress};
-ghost use Rattle.apx_tuple.specs.Progress.{progress_size};
+ghost use Rattle.apx_tuple.specs.Progress.{progress_size, IsLargeProgress};
 ghost use Rattle.apx_course.specs.Course.{Stops};
+ghost use Rattle.apx_stores.specs.Caused.{IsTooLarge};
+ghost use Rattle.apx_stores.specs.Crashes.{EntriesFollow, NoPut};
 ghost use Rattle.apx_held.specs.Fits.{IsSaved, save_id};
 ghost use Rattle.apx_held.specs.Partition.{progress_at};
-ghost use Rattle.apx_renew.specs.Owned.{repartitioned};
+ghost use Rattle.apx_renew.specs.Owned.{owned_of, repartitioned};
 ghost use Rattle.apx_renew.specs.Renewed.{KeepRenewed};
 ghost use Rattle.apx_reset.specs.Kept.{FitsRun};
+ghost use Rattle.apx_reset.specs.Put.{IsRenewal};
 ghost use Rattle.apx_reset.specs.Refused.{IsUnmoved};
 
 use crate::renewing::{add, renew_parts};
@@ -53,8 +56,10 @@ pub(crate) fn all_restored<K: Keeper + Drop, V: Vault + Drop, P: Spools + Drop, 
     ensures course { OnOk result (stores.new.course ≡ stores.old.course) }
     ensures stops { OnErr result (Stops J.run.plan stores.old.course stores.new.course worker) }
     ensures held { IsTrue V.tells → V.held stores.new.vault ≡ V.held stores.old.vault }
+    ensures crash { IsTrue V.tells → EntriesFollow NoPut V.time V.left V.held stores.old.vault stores.new.vault }
     ensures keeper { stores.new.keeper ≡ stores.old.keeper }
 {
+    stores.facts();
     let mut parts = Vec::new(alloc);
     for part in 0..count {
         let id = SaveId {
@@ -69,7 +74,8 @@ pub(crate) fn all_restored<K: Keeper + Drop, V: Vault + Drop, P: Spools + Drop, 
     Ok(parts)
 }
 
-/// What an operator carries in `count` partitions, of what it carried in these.
+/// What an operator carries in `count` partitions, of what it carried in these. All of it together is too large only where the
+/// dataflow is, if the checkpoint store and the spools tell.
 pub(crate) fn moved<K: Keeper + Drop, V: Vault + Drop, P: Spools + Drop, J: Naming>(
     alloc: Global,
     stores: &mut Stores<K, V, P, J>,
@@ -82,6 +88,7 @@ pub(crate) fn moved<K: Keeper + Drop, V: Vault + Drop, P: Spools + Drop, J: Nami
     requires few { length parts.items ≤ 8 }
     requires low { 1 ≤ count }
     requires high { count ≤ 8 }
+    requires large { IsLargeProgress (merge_progress (owned_of parts.items)) → IsTooLarge J.run.job.flow J.run.told }
     ensures ok { IfOk result (λ cuts. cuts.items ≡ repartitioned parts.items count) }
     ensures small { IfOk result (λ cuts. (i : ℕ) → i < count → progress_size (get_or cuts.items i at_start) < 4294967232) }
     ensures whole { (g : Progress) → IsOrdered g →
@@ -91,6 +98,7 @@ pub(crate) fn moved<K: Keeper + Drop, V: Vault + Drop, P: Spools + Drop, J: Nami
     ensures stops { OnErr result (Stops J.run.plan stores.old.course stores.new.course worker) }
     ensures why { OnErr result (IfSome stores.new.course.fault (IsUnmoved parts.items)) }
     ensures keeper { stores.new.keeper ≡ stores.old.keeper }
+    ensures vault { stores.new.vault ≡ stores.old.vault }
 {
     match repartition(alloc, parts, count) {
         Ok(cuts) => Ok(cuts),
@@ -197,6 +205,11 @@ pub fn renew_operator<K: Keeper + Drop, V: Vault + Drop, P: Spools + Drop, J: Na
     ensures kept { OnOk result (IsTrue V.tells → KeepRenewed J.run.job J.run.told
         (line_at J.run.plan line).op (line_at J.run.plan line).window (count_or 0 (line_at J.run.plan line).act)
         (entry_at (V.held stores.old.vault)) (entry_at (V.held stores.new.vault))) }
+
+    // Whatever is answered, it was asked to keep none but those.
+    ensures crash { IsTrue V.tells → EntriesFollow (IsRenewal J.run
+        (line_at J.run.plan line).op (line_at J.run.plan line).window (count_or 0 (line_at J.run.plan line).act))
+        V.time V.left V.held stores.old.vault stores.new.vault }
     ensures course { OnOk result (stores.new.course ≡ stores.old.course) }
     ensures stops { OnErr result (Stops J.run.plan stores.old.course stores.new.course worker) }
     ensures stays { OnErr result (contents.new ≡ contents.old) }

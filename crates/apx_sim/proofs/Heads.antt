@@ -1,10 +1,10 @@
 -- What a whole run promises, from what a core knows of itself.
-use Rattle.std.proofs.Common.{◌≡◌, ℕ, Bool, true, false, List, Option, None, Some, IsTrue, IfSome, sym, ap, subst, ◌∙◌, arith}
+use Rattle.std.proofs.Common.{◌≡◌, ℕ, Bool, true, false, List, Option, None, sym, ap, subst, ◌∙◌, arith}
 use Rattle.std.proofs.lemmas.List.{length-map}
 use Rattle.apx_tuple.specs.declared.tuple.Tuple.{Tuple}
-use Rattle.apx_device.specs.Vault as vault
 use Rattle.apx_history.specs.declared.Entry.{Entry}
-use Rattle.apx_history.specs.Plan.{Plan, last_checkpoint}
+use Rattle.apx_history.specs.declared.Event.TheVariants.{End}
+use Rattle.apx_history.specs.Plan.{Plan}
 use Rattle.apx_history.specs.State.{State, running}
 use Rattle.apx_history.specs.Journals.{beginning, after}
 use Rattle.apx_history.specs.Laws.{IsHistory}
@@ -13,14 +13,13 @@ use Rattle.apx_pass.specs.Pass.{windows}
 use Rattle.apx_pass.specs.Job.{Job}
 use Rattle.apx_job.specs.Job.{command_in, plan_of}
 use Rattle.apx_course.specs.declared.faults.CoreFault.{CoreFault}
-use Rattle.apx_course.specs.declared.faults.CoreFault.TheVariants.{Vault, Keeper, Spools, Spool, State as StateFault, Block, Memory, Large}
 use Rattle.apx_course.specs.Faults.{status_of}
 use Rattle.apx_course.specs.Run.{Run}
-use Rattle.apx_held.specs.Holding.{Holding}
-use Rattle.apx_held.specs.Fits.{Telling, Fits}
-use Rattle.apx_stores.specs.Whole.{IsCaused}
-use Rattle.apx_sim.specs.Headline.{left_by, StoresEachOnce, KeepsNeeded, EndsWhole, HasCheckpoints, HasCounted, IsStopped}
-use Rattle.apx_sim.proofs.Histories.{front_keeps, over_by, history_ends, end_saved}
+use Rattle.apx_promise.specs.Histories.{EndsWith}
+use Rattle.apx_sim.specs.Headline.{left_by, KeepsNeeded, EndsWhole, IsStopped, LosesNoWindow}
+use Rattle.apx_cause.specs.Steps.{Steps}
+use Rattle.apx_stores.specs.Crashes.{IsFirst}
+use Rattle.apx_sim.proofs.Histories.{front_keeps, over_by, history_ends}
 
 -- ---- over the job alone
 
@@ -42,6 +41,9 @@ module _ (job : Job) (s : ℕ) (es : List Entry) (history : IsHistory (plan_of j
     over : fault ≡ None → (left_by job s es).ended ≡ true
     over none = over_by (left_by job s es) stands (same ∙ ap (λ (f : Option (CoreFault F)). status_of f) none)
 
+    pub ends_with : fault ≡ None → EndsWith End es
+    ends_with none = (let end = history_ends (plan_of job) s 0 es history (over none) in record { front = end.front; worker = end.worker; is = end.last })
+
     pub ends_whole : EndsWhole job s es fault
     ends_whole = record {
       last = λ none. (let end = history_ends (plan_of job) s 0 es history (over none) in (end.front, end.worker, end.last));
@@ -50,62 +52,39 @@ module _ (job : Job) (s : ℕ) (es : List Entry) (history : IsHistory (plan_of j
       once = λ none l there. (ends-well (plan_of job) s 0 es history (over none)).once l (let e = length-map job.script (command_in job.flow.nodes) in omega arith);
     }
 
-    -- what a core keeps fits its machine, so the last checkpoints are there
-    pub has_checkpoints : (tells : Telling) (entries : List vault.Entry) (m : State) (hs : List (List Holding)) → m ≡ left_by job s es →
-        (fault ≡ None → Fits job tells (vault.entry_at entries) m hs) → HasCheckpoints job s tells.all tells.vault es fault entries
-    has_checkpoints tells entries m hs now fits = record {
-      each = λ none told positive o i part.
-          (subst (λ (n : State). Fits job tells (vault.entry_at entries) n hs) now (fits none)).vault told o i part (last_checkpoint (plan_of job) (windows job.flow)) positive
-          (end_saved (plan_of job) s 0 es history (over none) o i part);
-    }
-
 -- ---- causes
 
-pub counted : {F : Type 0} (run : Run) (k v p : ℕ) (fault : CoreFault F) → IsCaused run k v p fault →
-    HasCounted (record { keeper = run.keeper; vault = run.vault; spools = run.spools }) (record { keeper = k; vault = v; spools = p }) fault
-counted run k v p Vault h = h
-counted run k v p Keeper h = h
-counted run k v p Spools h = h
-counted run k v p (Spool why) h = h
-counted run k v p (StateFault id bytes) h = h
-counted run k v p (Block op part number window index last bytes) h = h
-counted run k v p Memory h = h
-counted run k v p Large h = h
-
-pub is_stopped : (F : Type 0) (run : Run) (es : List Entry) (fault : Option (CoreFault F)) (k v p : ℕ) → (left_by run.job run.stored es).fault ≡ status_of fault → IfSome fault (IsCaused run k v p) →
-    IsStopped run.job run.stored es fault (record { keeper = run.keeper; vault = run.vault; spools = run.spools }) (record { keeper = k; vault = v; spools = p })
-is_stopped F run es fault k v p same caused = record { status = same; cause = by fault caused }
-  where
-    by : (f : Option (CoreFault F)) → IfSome f (IsCaused run k v p) →
-        IfSome f (HasCounted (record { keeper = run.keeper; vault = run.vault; spools = run.spools }) (record { keeper = k; vault = v; spools = p }))
-    by None h = h
-    by (Some why) h = counted run k v p why h
-
--- so of others that are equal
-pub stopped_as : (F : Type 0) (job : Job) (s : ℕ) (es es' : List Entry) (fault fault' : Option (CoreFault F)) (k v p k' v' p' l w q l' w' q' : ℕ) →
-    IsStopped job s es fault (record { keeper = k; vault = v; spools = p }) (record { keeper = l; vault = w; spools = q }) →
+-- a stop, of what is equal
+pub stopped_as : (F : Type 0) (job : Job) (told vt st : Bool) (s : ℕ) (es es' : List Entry) (fault fault' : Option (CoreFault F)) (k v p k' v' p' l w q l' w' q' : ℕ) →
+    IsStopped job s es fault told vt st (record { keeper = k; vault = v; spools = p }) (record { keeper = l; vault = w; spools = q }) →
     es ≡ es' → fault ≡ fault' → k ≡ k' → v ≡ v' → p ≡ p' → l ≡ l' → w ≡ w' → q ≡ q' →
-    IsStopped job s es' fault' (record { keeper = k'; vault = v'; spools = p' }) (record { keeper = l'; vault = w'; spools = q' })
-stopped_as F job s es es' fault fault' k v p k' v' p' l w q l' w' q' h a b c d e f x y =
-    subst (λ (fs : List Entry). IsStopped job s fs fault' (record { keeper = k'; vault = v'; spools = p' }) (record { keeper = l'; vault = w'; spools = q' })) a
-    (subst (λ (why : Option (CoreFault F)). IsStopped job s es why (record { keeper = k'; vault = v'; spools = p' }) (record { keeper = l'; vault = w'; spools = q' })) b
-    (subst (λ (n : ℕ). IsStopped job s es fault (record { keeper = n; vault = v'; spools = p' }) (record { keeper = l'; vault = w'; spools = q' })) c
-    (subst (λ (n : ℕ). IsStopped job s es fault (record { keeper = k; vault = n; spools = p' }) (record { keeper = l'; vault = w'; spools = q' })) d
-    (subst (λ (n : ℕ). IsStopped job s es fault (record { keeper = k; vault = v; spools = n }) (record { keeper = l'; vault = w'; spools = q' })) e
-    (subst (λ (n : ℕ). IsStopped job s es fault (record { keeper = k; vault = v; spools = p }) (record { keeper = n; vault = w'; spools = q' })) f
-    (subst (λ (n : ℕ). IsStopped job s es fault (record { keeper = k; vault = v; spools = p }) (record { keeper = l; vault = n; spools = q' })) x
-    (subst (λ (n : ℕ). IsStopped job s es fault (record { keeper = k; vault = v; spools = p }) (record { keeper = l; vault = w; spools = n })) y h)))))))
+    IsStopped job s es' fault' told vt st (record { keeper = k'; vault = v'; spools = p' }) (record { keeper = l'; vault = w'; spools = q' })
+stopped_as F job told vt st s es es' fault fault' k v p k' v' p' l w q l' w' q' h a b c d e f x y =
+    subst (λ (fs : List Entry). IsStopped job s fs fault' told vt st (record { keeper = k'; vault = v'; spools = p' }) (record { keeper = l'; vault = w'; spools = q' })) a
+    (subst (λ (why : Option (CoreFault F)). IsStopped job s es why told vt st (record { keeper = k'; vault = v'; spools = p' }) (record { keeper = l'; vault = w'; spools = q' })) b
+    (subst (λ (n : ℕ). IsStopped job s es fault told vt st (record { keeper = n; vault = v'; spools = p' }) (record { keeper = l'; vault = w'; spools = q' })) c
+    (subst (λ (n : ℕ). IsStopped job s es fault told vt st (record { keeper = k; vault = n; spools = p' }) (record { keeper = l'; vault = w'; spools = q' })) d
+    (subst (λ (n : ℕ). IsStopped job s es fault told vt st (record { keeper = k; vault = v; spools = n }) (record { keeper = l'; vault = w'; spools = q' })) e
+    (subst (λ (n : ℕ). IsStopped job s es fault told vt st (record { keeper = k; vault = v; spools = p }) (record { keeper = n; vault = w'; spools = q' })) f
+    (subst (λ (n : ℕ). IsStopped job s es fault told vt st (record { keeper = k; vault = v; spools = p }) (record { keeper = l; vault = n; spools = q' })) x
+    (subst (λ (n : ℕ). IsStopped job s es fault told vt st (record { keeper = k; vault = v; spools = p }) (record { keeper = l; vault = w; spools = n })) y h)))))))
 
--- ---- what is told
+-- ---- crashes
 
--- what is promised where less is told holds where more is
-pub store_as : (job : Job) (s : ℕ) (told told' : Bool) (es : List Entry) (rows : List (List Tuple)) → (IsTrue told' → IsTrue told) → StoresEachOnce job s told es rows → StoresEachOnce job s told' es rows
-store_as job s told told' es rows more h = record { fits = λ t. h.fits (more t) }
-
-pub checkpoints_as : (F : Type 0) (job : Job) (s : ℕ) (told told' vt : Bool) (es : List Entry) (fault : Option (CoreFault F)) (entries : List vault.Entry) → (IsTrue told' → IsTrue told) →
-    HasCheckpoints job s told vt es fault entries → HasCheckpoints job s told' vt es fault entries
-checkpoints_as F job s told told' vt es fault entries more h = record {
-  each = λ none tells positive o i part.
-      let x = h.each none tells positive o i part in
-      record { progress = x.progress; spelled = x.spelled; small = x.small; named = λ t. x.named (more t) };
-}
+-- what a crash leaves of the sink's store, of what is equal
+pub loses_none : {K : Type 0} (run : Run) → run.plan ≡ plan_of run.job → (time : K → ℕ) (left : K → ℕ → List (List Tuple) → Type 0) (old old' new new' : K) (s : ℕ) (m : State) (es es' : List Entry)
+    → old ≡ old' → new ≡ new' → s ≡ run.stored → es ≡ es' → m ≡ left_by run.job run.stored es
+    → Steps (time old) (time new) (left old) (left new) (IsFirst run.job.flow s run.plan.windows)
+    → ((rows : List (List Tuple)) → left new (time new) rows → IsFirst run.job.flow m.stored run.plan.windows rows)
+    → LosesNoWindow run.job run.stored es' time left old' new'
+loses_none run planned time left old old' new new' s m es es' begins ends first same now steps behind =
+    let most : run.plan.windows ≡ windows run.job.flow = ap (λ (p : Plan). p.windows) planned in
+    subst (λ (fs : List Entry). LosesNoWindow run.job run.stored fs time left old' new') same
+    (subst (λ k. LosesNoWindow run.job run.stored es time left k new') begins
+    (subst (λ k. LosesNoWindow run.job run.stored es time left old k) ends
+    (record {
+      within = subst (λ (n : ℕ). Steps (time old) (time new) (left old) (left new) (IsFirst run.job.flow n (windows run.job.flow))) first
+          (subst (λ (n : ℕ). Steps (time old) (time new) (left old) (left new) (IsFirst run.job.flow s n)) most steps);
+      behind = subst (λ (n : State). (rows : List (List Tuple)) → left new (time new) rows → IsFirst run.job.flow n.stored (windows run.job.flow) rows) now
+          (subst (λ (n : ℕ). (rows : List (List Tuple)) → left new (time new) rows → IsFirst run.job.flow m.stored n rows) most behind);
+    })))

@@ -3,14 +3,14 @@ use Rattle.std.proofs.Common.{◌≡◌, ℕ, ◌<◌, Bool, true, false, cond, 
 use Rattle.apx_history.specs.declared.Entry.{Entry}
 use Rattle.apx_history.specs.declared.Event.{Event}
 use Rattle.apx_history.specs.declared.Event.TheVariants.{Start, Write, Finish, Save, Advance, Commit, Purge, Kill, Repartition, End, Fault}
-use Rattle.apx_history.specs.Plan.{Plan, has, last_checkpoint}
+use Rattle.apx_history.specs.Plan.{Plan}
 use Rattle.apx_history.specs.State.{State, slot, IsPart, running, put, map_slots}
 use Rattle.apx_history.specs.Effects.{meet, split, next}
 use Rattle.apx_history.specs.Conditions.{CanEnd}
 use Rattle.apx_history.specs.Journals.{beginning, is_legal, after}
 use Rattle.apx_history.specs.Kept.{IsNeeded}
 use Rattle.apx_history.specs.Laws.{IsHistory}
-use Rattle.apx_history.proofs.Legal.{can_runs, fits_parts, legal-append, kept_start, kept_after, histories-keep}
+use Rattle.apx_history.proofs.Legal.{can_runs, fits_parts, legal-append, kept_start, kept_after}
 use Rattle.apx_history.proofs.Held.{keeps-needed}
 use Rattle.apx_history.proofs.Once.{ended_by}
 use Rattle.apx_course.specs.Course.{entry}
@@ -107,14 +107,3 @@ over_by m stands none = by m.ended m.fault none stands
 pub history_ends : (plan : Plan) (s c : ℕ) (es : List Entry) → IsHistory plan s c es → (after plan (beginning plan s c) es).ended ≡ true →
     Ending plan (beginning plan s c) es
 history_ends plan s c es history over = ends_last plan (beginning plan s c) es history.legal (begins_unended plan s c) over
-
--- then the recovery checkpoint of each partition is the last, and it is saved
-pub end_saved : (plan : Plan) (s c : ℕ) (es : List Entry) → IsHistory plan s c es → (after plan (beginning plan s c) es).ended ≡ true →
-    (o i : ℕ) → IsPart (after plan (beginning plan s c) es) o i → has (slot (after plan (beginning plan s c) es) o i).saved (last_checkpoint plan plan.windows) ≡ true
-end_saved plan s c es history over o i part =
-    let m = after plan (beginning plan s c) es in
-    let end = history_ends plan s c es history over in
-    let kept = histories-keep plan s c es history in
-    let there : IsPart (record (after plan (beginning plan s c) end.front) { ended = true }) o i = subst (λ (n : State). IsPart n o i) end.over part in
-    let rc : (slot m o i).rc ≡ last_checkpoint plan plan.windows = ap (λ (n : State). (slot n o i).rc) end.over ∙ end.can.rc o i there in
-    subst (λ (w : ℕ). has (slot m o i).saved w ≡ true) rc (kept.each o i part).rc_saved

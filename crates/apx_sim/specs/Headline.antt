@@ -4,17 +4,20 @@
 --     StoresEachOnce    the sink's store has exactly the rows of the one pass, each window once
 --     KeepsNeeded       no block of a window that may still be read was dropped
 --     EndsWhole         without a fault every window is stored, and each line of the script was met once
---     HasCheckpoints    without a fault the checkpoint store has the last checkpoint of each partition
---     IsStopped         a fault has its status, and its cause
+--     HasCheckpoints    without a fault the checkpoint store has the last checkpoints, and no other where it began empty
+--     LosesNoWindow     what a crash leaves of the sink's store
+--     IsStopped         a fault has its status, and its cause (IsCaused of apx_stores)
 --     IsReadable        without a fault every window can be read back from the sink's store
-use Rattle.std.specs.Prelude.{◌≡◌, ℕ, ◌<◌, ◌≤◌, Bool, false, List, [], ◌∷◌, ◌++◌, length, Option, None, IsTrue, IfSome, ⊤}
-use Rattle.apx_cause.specs.Cause.{Rose}
+use Rattle.std.specs.Prelude.{◌≡◌, ℕ, ◌<◌, ◌≤◌, Bool, false, List, [], ◌∷◌, ◌++◌, length, map, Option, None, IsTrue, IfSome}
+use Rattle.std.specs.Map.{keys_of}
+use Rattle.apx_cause.specs.Steps.{Steps}
 use Rattle.apx_tuple.specs.declared.tuple.Tuple.{Tuple}
+use Rattle.apx_device.specs.declared.vault.SaveId.{SaveId}
 use Rattle.apx_device.specs.Vault as vault
 use Rattle.apx_history.specs.declared.Entry.{Entry}
 use Rattle.apx_history.specs.declared.Event.TheVariants.{End}
 use Rattle.apx_history.specs.Plan.{last_checkpoint}
-use Rattle.apx_history.specs.State.{State, oper, slot, IsPart, running}
+use Rattle.apx_history.specs.State.{State, slot, IsPart, running}
 use Rattle.apx_history.specs.Journals.{beginning, after, times_met}
 use Rattle.apx_history.specs.Kept.{IsNeeded}
 use Rattle.apx_history.specs.Laws.{IsHistory, bound}
@@ -22,10 +25,14 @@ use Rattle.apx_pass.specs.Pass.{windows}
 use Rattle.apx_pass.specs.Job.{Job}
 use Rattle.apx_job.specs.Job.{plan_of}
 use Rattle.apx_course.specs.declared.faults.CoreFault.{CoreFault}
-use Rattle.apx_course.specs.declared.faults.CoreFault.TheVariants.{Vault, Keeper, Spools}
 use Rattle.apx_course.specs.Faults.{status_of}
 use Rattle.apx_course.specs.Course.{entry}
-use Rattle.apx_held.specs.Fits.{save_id, IsSaved}
+use Rattle.apx_statebytes.specs.Spelling.{second_spelling}
+use Rattle.apx_held.specs.Partition.{progress_at}
+use Rattle.apx_held.specs.Fits.{IsSaved}
+use Rattle.apx_promise.specs.Checkpoints.{IsLastSave, last_saves}
+use Rattle.apx_stores.specs.Caused.{Counts, AreLater, IsCaused}
+use Rattle.apx_stores.specs.Crashes.{IsFirst}
 use Rattle.apx_stores.specs.Whole.{FitsKeeper}
 use Rattle.apx_drive.specs.Driven.{IsOrdered}
 
@@ -77,38 +84,42 @@ pub record EndsWhole {F : Type 0} (job : Job) (s : ℕ) (es : List Entry) (fault
   -- each line was met once
   pub once : fault ≡ None → (l : ℕ) → l < length job.script → times_met l es ≡ 1
 
--- Without a fault the checkpoint store has, where it tells, the last checkpoint of each partition, in the epoch that its operator
--- is in. Where all devices tell, that is what the partition carries from its window.
-pub record HasCheckpoints {F : Type 0} (job : Job) (s : ℕ) (told vault_tells : Bool) (es : List Entry) (fault : Option (CoreFault F))
-    (entries : List vault.Entry) : Type 0 where
-  -- each of them, unless it is that of window 0
-  pub each : fault ≡ None → IsTrue vault_tells → 0 < last_window job → (o i : ℕ) → IsPart (left_by job s es) o i →
-      IsSaved job told o (oper (left_by job s es) o).boundary i (last_window job)
-      (vault.entry_at entries (save_id o (oper (left_by job s es) o).boundary i (last_window job)))
+-- the checkpoint of an id: the bytes that spell what its partition carries, in its epoch, from its window
+abbrev pub checkpoint_of : Job → SaveId → vault.Entry
+checkpoint_of job id = (id, second_spelling (progress_at job id.op id.boundary id.part id.window))
 
--- how many faults the devices have counted
-pub record Counts : Type 0 where
-  -- the sink's store
-  pub keeper : ℕ
-  -- the checkpoint store
-  pub vault : ℕ
-  -- the maker of spools
-  pub spools : ℕ
+-- Without a fault the checkpoint store has, where it tells, the last checkpoints: those after the last window at which checkpoints
+-- are made, of each partition of each epoch that has this window or begins behind it. Where it was empty as the run began it has
+-- these alone, and none with last window 0. Each spells a progress. Where the checkpoint store and the spools tell, that is what
+-- the partition carries.
+pub record HasCheckpoints {F : Type 0} (job : Job) (told vault_tells : Bool) (fault : Option (CoreFault F))
+    (began entries : List vault.Entry) : Type 0 where
+  -- each of them is there, and spells a progress
+  pub each : fault ≡ None → IsTrue vault_tells → (id : SaveId) → IsLastSave (plan_of job) id →
+      IsSaved job told id.op id.boundary id.part id.window (vault.entry_at entries id)
+  -- in order, and no other
+  pub only : fault ≡ None → IsTrue vault_tells → began ≡ [] → keys_of entries ≡ last_saves (plan_of job)
+  -- with these bytes
+  pub exact : fault ≡ None → IsTrue vault_tells → IsTrue told → began ≡ [] → entries ≡ map (checkpoint_of job) (last_saves (plan_of job))
 
--- a device that a fault names has counted it
-abbrev pub HasCounted : {F : Type 0} → Counts → Counts → CoreFault F → Type 0
-HasCounted before now Keeper = Rose before.keeper now.keeper
-HasCounted before now Vault = Rose before.vault now.vault
-HasCounted before now Spools = Rose before.spools now.spools
-HasCounted before now _ = ⊤
+-- A crash at any moment of the run leaves of the sink's store what it might have left before the run, or the first windows of the
+-- one pass with all that it had as the run began. A crash behind the run leaves each window that is stored.
+pub record LosesNoWindow {K : Type 0} (job : Job) (s : ℕ) (es : List Entry) (time : K → ℕ) (left : K → ℕ → List (List Tuple) → Type 0)
+    (old new : K) : Type 0 where
+  -- at any moment
+  pub within : Steps (time old) (time new) (left old) (left new) (IsFirst job.flow s (windows job.flow))
+  -- behind the run
+  pub behind : (rows : List (List Tuple)) → left new (time new) rows → IsFirst job.flow (left_by job s es).stored (windows job.flow) rows
 
--- A fault has its status in what happened, and a device that it names has counted it.
+-- A fault has its status in what happened, and its cause. No device has counted fewer faults than before.
 pub record IsStopped {F : Type 0} (job : Job) (s : ℕ) (es : List Entry) (fault : Option (CoreFault F))
-    (before now : Counts) : Type 0 where
+    (told vault spools : Bool) (before now : Counts) : Type 0 where
   -- the status that the run stopped with
   pub status : (left_by job s es).fault ≡ status_of fault
   -- the cause
-  pub cause : IfSome fault (HasCounted before now)
+  pub cause : IfSome fault (IsCaused job told vault spools before now)
+  -- no count fell
+  pub later : AreLater before now
 
 -- Without a fault the sink's store has every window of the job, and may be called on: each can be read back.
 pub record IsReadable {F : Type 0} (job : Job) (fault : Option (CoreFault F)) (sound : Bool) (last : ℕ) : Type 0 where

@@ -1,6 +1,6 @@
 //! A core with what is held for the windows that it has open.
 ghost use Rattle.std.specs.Prelude.{◌≡◌, ◌<◌, true, false, length, get_or, Some, None, []};
-ghost use Rattle.std.specs.Prelude.{IsSome, IfSome, IfNone, IfOk, IfErr, OnOk, OnErr};
+ghost use Rattle.std.specs.Prelude.{IsTrue, IsSome, IfSome, IfNone, IfOk, IfErr, OnOk, OnErr};
 ghost use Rattle.apx_history.specs.Plan.{line as line_at};
 ghost use Rattle.apx_history.specs.State.{running};
 ghost use Rattle.apx_history.specs.Enabled.{can};
@@ -11,7 +11,9 @@ ghost use Rattle.apx_history.specs.declared.Event.TheVariants.{Start, Write, Fin
 ghost use Rattle.apx_course.specs.Faults.{is_fault};
 ghost use Rattle.apx_course.specs.Course.{Did, Stops};
 ghost use Rattle.apx_hands.specs.Table.{cell, put_cell};
+ghost use Rattle.apx_stores.specs.Crashes.{IsDurable, RowsFollow, IsSettled, EntriesFollow, NoPut};
 ghost use Rattle.apx_core.specs.Claim.{IsWork};
+ghost use Rattle.apx_core.specs.Crashes.{IsOfRun};
 ghost use Rattle.apx_sim.specs.Hand.{IsOfClaim};
 ghost use Rattle.apx_sim.specs.Bench.{IsVictim};
 
@@ -74,6 +76,8 @@ fn work<K: Keeper + Drop, V: Vault + Drop, P: Spools + Drop, J: Naming>(
     ensures core { OnOk result (core.new ≡ core.old) }
     ensures claim { IfOk result (λ r. IsOfClaim hand.claim r.0) }
     ensures work { IfOk result (λ r. IsWork J.run r.0 r.1) }
+    ensures keeper { core.new.stores.keeper ≡ core.old.stores.keeper }
+    ensures vault { core.new.stores.vault ≡ core.old.stores.vault }
     ensures stops { OnErr result (Stops J.run.plan core.old.stores.course core.new.stores.course 0) }
 {
     match hand.work(alloc, core.job()) {
@@ -109,6 +113,10 @@ impl<K: Keeper + Drop, V: Vault + Drop, P: Spools + Drop, J: Naming> Bench<K, V,
         ensures history { IsHistory J.run.plan J.run.stored J.run.from self.now.stores.course.journal }
         ensures now { self.now.stores.course.machine
             ≡ after J.run.plan (beginning J.run.plan J.run.stored J.run.from) self.now.stores.course.journal }
+        ensures durable { IsDurable J.run K.tells self.now.stores.course.machine.stored
+            (K.left self.now.stores.keeper (K.time self.now.stores.keeper)) }
+        ensures settled { running self.now.stores.course.machine ≡ true →
+            IsSettled V.tells V.time V.left V.held self.now.stores.vault }
     {
         self.core.facts();
     }
@@ -156,6 +164,8 @@ impl<K: Keeper + Drop, V: Vault + Drop, P: Spools + Drop, J: Naming> Bench<K, V,
         requires { can J.run.plan self.old.stores.course.machine (Start id.op id.part window) ≡ true }
         ensures did { OnOk result (Did J.run.plan self.old.stores.course self.new.stores.course 0 (Start id.op id.part window)) }
         ensures stops { OnErr result (Stops J.run.plan self.old.stores.course self.new.stores.course 0) }
+        ensures keeper { self.new.stores.keeper ≡ self.old.stores.keeper }
+        ensures vault { self.new.stores.vault ≡ self.old.stores.vault }
     {
         self.core.facts();
         self.hands.facts();
@@ -170,6 +180,9 @@ impl<K: Keeper + Drop, V: Vault + Drop, P: Spools + Drop, J: Naming> Bench<K, V,
         requires bears { bears (owed J.run.plan self.old.stores.course.machine (Write window)) 0 ≡ true }
         ensures did { OnOk result (Did J.run.plan self.old.stores.course self.new.stores.course 0 (Write window)) }
         ensures stops { OnErr result (Stops J.run.plan self.old.stores.course self.new.stores.course 0) }
+        ensures rows { RowsFollow J.run K.tells self.old.stores.course.machine.stored K.time K.left
+            self.old.stores.keeper self.new.stores.keeper }
+        ensures vault { self.new.stores.vault ≡ self.old.stores.vault }
     {
         self.core.facts();
         self.hands.facts();
@@ -187,6 +200,8 @@ impl<K: Keeper + Drop, V: Vault + Drop, P: Spools + Drop, J: Naming> Bench<K, V,
         requires bears { bears (owed J.run.plan self.old.stores.course.machine (Finish id.op id.part window)) 0 ≡ true }
         ensures did { OnOk result (Did J.run.plan self.old.stores.course self.new.stores.course 0 (Finish id.op id.part window)) }
         ensures stops { OnErr result (Stops J.run.plan self.old.stores.course self.new.stores.course 0) }
+        ensures keeper { self.new.stores.keeper ≡ self.old.stores.keeper }
+        ensures vault { self.new.stores.vault ≡ self.old.stores.vault }
     {
         self.core.facts();
         self.hands.facts();
@@ -225,6 +240,8 @@ impl<K: Keeper + Drop, V: Vault + Drop, P: Spools + Drop, J: Naming> Bench<K, V,
         requires bears { bears (owed J.run.plan self.old.stores.course.machine (Kill line)) 0 ≡ true }
         ensures did { OnOk result (Did J.run.plan self.old.stores.course self.new.stores.course 0 (Kill line)) }
         ensures stops { OnErr result (Stops J.run.plan self.old.stores.course self.new.stores.course 0) }
+        ensures keeper { self.new.stores.keeper ≡ self.old.stores.keeper }
+        ensures entries { IsTrue V.tells → EntriesFollow NoPut V.time V.left V.held self.old.stores.vault self.new.stores.vault }
     {
         self.core.facts();
         self.hands.facts();
@@ -244,7 +261,14 @@ impl<K: Keeper + Drop, V: Vault + Drop, P: Spools + Drop, J: Naming> Bench<K, V,
         requires goes { is_fault event ≡ false }
         ensures did { OnOk result (Did J.run.plan self.old.stores.course self.new.stores.course 0 event) }
         ensures stops { OnErr result (Stops J.run.plan self.old.stores.course self.new.stores.course 0) }
+
+        // What a crash leaves of the stores.
+        ensures rows { RowsFollow J.run K.tells self.old.stores.course.machine.stored K.time K.left
+            self.old.stores.keeper self.new.stores.keeper }
+        ensures entries { IsTrue V.tells → EntriesFollow (IsOfRun J.run.job J.run.told)
+            V.time V.left V.held self.old.stores.vault self.new.stores.vault }
     {
+        self.facts();
         match event {
             Event::Start { op, part, window } => self.start(PartId { op, part }, window),
             Event::Write { window } => self.write(window),

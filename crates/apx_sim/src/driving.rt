@@ -1,8 +1,10 @@
 //! A core driven from its begin until it goes on no more.
-ghost use Rattle.std.specs.Prelude.{◌≡◌, ◌≤◌, ℕ, [], length};
+ghost use Rattle.std.specs.Prelude.{◌≡◌, ◌≤◌, ℕ, [], length, IsTrue};
 ghost use Rattle.apx_history.specs.Journals.{beginning};
 ghost use Rattle.apx_history.specs.Laws.{bound};
 ghost use Rattle.apx_drive.specs.Driven.{IsDriven, drawn, behind};
+ghost use Rattle.apx_stores.specs.Crashes.{RowsFollow, EntriesFollow};
+ghost use Rattle.apx_core.specs.Crashes.{IsOfRun};
 ghost use Rattle.apx_sim.specs.Bench.{place_of};
 
 use crate::bench::Bench;
@@ -37,6 +39,9 @@ fn drive<K: Keeper + Drop, V: Vault + Drop, P: Spools + Drop, J: Naming>(
     requires { bench.stores.course.journal ≡ [] }
     ensures driven { IsDriven J.run.plan order (beginning J.run.plan J.run.stored J.run.from) (place_of result.stores.course) }
     ensures bound { length result.stores.course.journal ≤ bound J.run.plan }
+    ensures rows { RowsFollow J.run K.tells bench.stores.course.machine.stored K.time K.left bench.stores.keeper result.stores.keeper }
+    ensures entries { IsTrue V.tells → EntriesFollow (IsOfRun J.run.job J.run.told)
+        V.time V.left V.held bench.stores.vault result.stores.vault }
 {
     is_bounded();
     choices_are_exact();
@@ -63,6 +68,9 @@ fn stopped<K: Keeper + Drop, V: Vault + Drop, P: Spools + Drop, J: Naming>(
     ensures driven { (order : ℕ) →
         IsDriven J.run.plan order (beginning J.run.plan J.run.stored J.run.from) (place_of result.stores.course) }
     ensures bound { length result.stores.course.journal ≤ bound J.run.plan }
+    ensures rows { RowsFollow J.run K.tells core.stores.course.machine.stored K.time K.left core.stores.keeper result.stores.keeper }
+    ensures entries { IsTrue V.tells → EntriesFollow (IsOfRun J.run.job J.run.told)
+        V.time V.left V.held core.stores.vault result.stores.vault }
 {
     let mut core = core;
     core.facts();
@@ -85,6 +93,9 @@ pub(crate) fn sim<K: Keeper + Drop, V: Vault + Drop, P: Spools + Drop, J: Naming
     requires { core.stores.course.journal ≡ [] }
     ensures driven { IsDriven J.run.plan order (beginning J.run.plan J.run.stored J.run.from) (place_of result.stores.course) }
     ensures bound { length result.stores.course.journal ≤ bound J.run.plan }
+    ensures rows { RowsFollow J.run K.tells core.stores.course.machine.stored K.time K.left core.stores.keeper result.stores.keeper }
+    ensures entries { IsTrue V.tells → EntriesFollow (IsOfRun J.run.job J.run.told)
+        V.time V.left V.held core.stores.vault result.stores.vault }
 {
     match Bench::new(alloc, core) {
         Ok(bench) => drive(bench, order).core(),

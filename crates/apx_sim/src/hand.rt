@@ -1,5 +1,6 @@
 //! What is held for a window between its begin and its end.
-ghost use Rattle.std.specs.Prelude.{◌≡◌, Some, None, IsSome, IfOk};
+ghost use Rattle.std.specs.Prelude.{◌≡◌, Some, None, Err, IsSome, IfOk};
+ghost use Rattle.apx_stores.specs.Caused.{IsTooLarge};
 ghost use Rattle.apx_core.specs.Claim.{IsWork};
 ghost use Rattle.apx_sim.specs.Hand.{IsOfClaim};
 
@@ -49,11 +50,13 @@ impl<J: Naming> Hand<J> {
         }
     }
 
-    /// The claim with what its work makes, which is done now where it wasn't yet.
+    /// The claim with what its work makes, which is done now where it wasn't yet. Where the checkpoint store and the spools tell, it
+    /// is too large only where the dataflow is.
     pub(crate) fn work(self, alloc: Global, job: &Job) -> Result<(Claim<J>, Done), Short>
         requires { job.now ≡ J.run.job }
         ensures claim { IfOk result (λ r. IsOfClaim self.claim r.0) }
         ensures work { IfOk result (λ r. IsWork J.run r.0 r.1) }
+        ensures cause { result ≡ Err Short.Large → IsTooLarge J.run.job.flow J.run.told }
     {
         let Hand { mut claim, done } = self;
         match done {

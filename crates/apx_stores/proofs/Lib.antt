@@ -1,3 +1,3 @@
 pub mod Wholes
-pub mod Own
 pub mod Stopping
+pub mod Crashing

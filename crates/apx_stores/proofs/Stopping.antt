@@ -1,14 +1,12 @@
 -- A stop, and an event, of a run that stood as it did before.
-use Rattle.std.proofs.Common.{◌≡◌, ℕ, ◌++◌, ◌∷◌, [], sym, ap, ◌∙◌, refl, Bool, true, false}
-use Rattle.apx_history.specs.declared.Entry.{Entry}
+use Rattle.std.proofs.Common.{◌≡◌, ℕ, ◌++◌, ◌∷◌, [], ap, ◌∙◌, refl, false}
 use Rattle.apx_history.specs.declared.Event.{Event}
 use Rattle.apx_history.specs.declared.Event.TheVariants.{Start, Write, Finish, Save, Advance, Commit, Purge, Kill, Repartition, End, Fault}
 use Rattle.apx_history.specs.Plan.{Plan}
 use Rattle.apx_history.specs.State.{State, put, map_slots}
 use Rattle.apx_history.specs.Effects.{next, meet, split}
-use Rattle.apx_course.specs.declared.faults.CoreFault.{CoreFault}
 use Rattle.apx_course.specs.Faults.{status}
-use Rattle.apx_course.specs.Course.{Standing, entry, Did, StopsWith, Stops}
+use Rattle.apx_course.specs.Course.{Standing, entry, Did, Stops}
 use Rattle.apx_stores.specs.Plain.{writes}
 
 -- a stop from where the machine and the journal were the same

@@ -2,8 +2,9 @@
 //!
 //! A call makes one change: it does to a device what an event asks for, and adds the event. Where a device fails or
 //! memory is wanting, the run stops with a fault, which tells its cause. So the sink's store has what the one pass gives
-//! for the windows that the machine counts as stored, and a device that a fault names has counted one since the run
-//! began: `specs/Whole.antt` says so of each run.
+//! for the windows that the machine counts as stored, and a fault has its cause (`specs/Caused.antt`): a device that it
+//! names has counted one since the run began, and bytes that it shows spell nothing. `specs/Whole.antt` says so of each
+//! run.
 #![tactic(auto)]
 
 mod devices;

@@ -5,6 +5,7 @@ ghost use Rattle.apx_history.specs.Enabled.{can};
 ghost use Rattle.apx_history.specs.declared.Event.TheVariants.{Commit};
 ghost use Rattle.apx_device.specs.Vault.{bytes_at, with_entry, entries_from};
 ghost use Rattle.apx_course.specs.Course.{Did, Stops};
+ghost use Rattle.apx_stores.specs.Crashes.{EntriesFollow, IsPut, NoPut};
 
 use crate::stores::Stores;
 use apx_course::{CoreFault, Naming, Stopped};
@@ -20,6 +21,7 @@ impl<K: Keeper + Drop, V: Vault + Drop, P: Spools + Drop, J: Naming> Stores<K, V
         ensures course { OnOk result (self.new.course ≡ self.old.course) }
         ensures stops { OnErr result (Stops J.run.plan self.old.course self.new.course worker) }
         ensures held { OnOk result (IsTrue V.tells → V.held self.new.vault ≡ with_entry (V.held self.old.vault) id bytes.now) }
+        ensures crash { IsTrue V.tells → EntriesFollow (IsPut id bytes.now) V.time V.left V.held self.old.vault self.new.vault }
         ensures keeper { self.new.keeper ≡ self.old.keeper }
         ensures spools { self.new.spools ≡ self.old.spools }
     {
@@ -38,6 +40,7 @@ impl<K: Keeper + Drop, V: Vault + Drop, P: Spools + Drop, J: Naming> Stores<K, V
         ensures course { OnOk result (self.new.course ≡ self.old.course) }
         ensures stops { OnErr result (Stops J.run.plan self.old.course self.new.course worker) }
         ensures held { IsTrue V.tells → V.held self.new.vault ≡ V.held self.old.vault }
+        ensures crash { IsTrue V.tells → EntriesFollow NoPut V.time V.left V.held self.old.vault self.new.vault }
         ensures keeper { self.new.keeper ≡ self.old.keeper }
         ensures spools { self.new.spools ≡ self.old.spools }
     {
@@ -55,6 +58,7 @@ impl<K: Keeper + Drop, V: Vault + Drop, P: Spools + Drop, J: Naming> Stores<K, V
         ensures did { OnOk result (Did J.run.plan self.old.course self.new.course worker (Commit to)) }
         ensures stops { OnErr result (Stops J.run.plan self.old.course self.new.course worker) }
         ensures held { OnOk result (IsTrue V.tells → V.held self.new.vault ≡ entries_from (V.held self.old.vault) to) }
+        ensures crash { IsTrue V.tells → EntriesFollow NoPut V.time V.left V.held self.old.vault self.new.vault }
         ensures keeper { self.new.keeper ≡ self.old.keeper }
         ensures spools { self.new.spools ≡ self.old.spools }
     {

@@ -11,8 +11,10 @@ ghost use Rattle.apx_machine.specs.Memory.{takes_memory};
 ghost use Rattle.apx_pass.specs.Pass.{mean_up_to};
 ghost use Rattle.apx_course.specs.Faults.{status_of, is_fault};
 ghost use Rattle.apx_course.specs.Course.{Did, Stops, StopsWith};
-ghost use Rattle.apx_stores.specs.Whole.{FitsKeeper, IsCaused, is_own};
+ghost use Rattle.apx_stores.specs.Caused.{AreLater, IsCaused};
+ghost use Rattle.apx_stores.specs.Whole.{FitsKeeper, BeginsRight, counted};
 ghost use Rattle.apx_stores.specs.Plain.{writes};
+ghost use Rattle.apx_stores.specs.Crashes.{IsDurable, IsSettled};
 
 use crate::devices::Devices;
 use apx_course::{CoreFault, Course, Naming, Stopped};
@@ -44,14 +46,17 @@ impl<K: Keeper + Drop, V: Vault + Drop, P: Spools + Drop, J: Naming> Model for S
     ghost use Rattle.std.specs.Prelude.{IsTrue};
     ghost use Rattle.apx_stores.specs.Stored.{Stored};
     ghost use Rattle.apx_stores.specs.Whole.{IsWhole};
+    ghost use Rattle.apx_stores.specs.Crashes.{IsDurable};
 
     ghost Value = { Stored K V P P.S.Fault };
 
     ghost view = { λ s. record { keeper = s.keeper; vault = s.vault; spools = s.spools; course = s.course } };
 
-    ghost invariant = { λ s. (IsTrue J.run.told → IsTrue K.tells × IsTrue V.tells × IsTrue P.S.tells)
-        × IsWhole J.run s.course.machine.stored s.course.fault (K.stored s.keeper) (K.last s.keeper) (K.sound s.keeper)
-        (V.sound s.vault) (K.faults s.keeper) (V.faults s.vault) (P.faults s.spools) };
+    ghost invariant = { λ s. (IsTrue J.run.told → IsTrue V.tells × IsTrue P.S.tells)
+        × IsWhole J.run (record { keeper = K.tells; vault = V.tells; spools = P.S.tells }) s.course.machine.stored s.course.fault
+        (K.stored s.keeper) (K.last s.keeper) (K.sound s.keeper) (V.sound s.vault)
+        (K.faults s.keeper) (V.faults s.vault) (P.faults s.spools)
+        × IsDurable J.run K.tells s.course.machine.stored (K.left s.keeper (K.time s.keeper)) };
 }
 
 impl<K: Keeper + Drop, V: Vault + Drop, P: Spools + Drop, J: Naming> Stores<K, V, P, J> {
@@ -60,8 +65,8 @@ impl<K: Keeper + Drop, V: Vault + Drop, P: Spools + Drop, J: Naming> Stores<K, V
     pub fn new(devices: Devices<K, V, P>, course: Course<<P::S as Spool>::Fault, J>) -> Self
         requires none { course.fault ≡ None }
         requires last { K.last devices.keeper ≡ course.machine.stored }
-        requires tells { IsTrue J.run.told → IsTrue K.tells × IsTrue V.tells × IsTrue P.S.tells }
-        requires rows { IsTrue J.run.told → K.stored devices.keeper ≡ mean_up_to J.run.job.flow course.machine.stored }
+        requires tells { IsTrue J.run.told → IsTrue V.tells × IsTrue P.S.tells }
+        requires rows { BeginsRight J.run K.tells → K.stored devices.keeper ≡ mean_up_to J.run.job.flow course.machine.stored }
         requires keeper { J.run.keeper ≤ K.faults devices.keeper }
         requires vault { J.run.vault ≤ V.faults devices.vault }
         requires spools { J.run.spools ≤ P.faults devices.spools }
@@ -69,6 +74,7 @@ impl<K: Keeper + Drop, V: Vault + Drop, P: Spools + Drop, J: Naming> Stores<K, V
         requires is_vault_sound { IsTrue (V.sound devices.vault) }
         ensures { result ≡ record { keeper = devices.keeper; vault = devices.vault; spools = devices.spools; course = course } }
     {
+        course.facts();
         let Devices {
             keeper,
             vault,
@@ -99,6 +105,8 @@ impl<K: Keeper + Drop, V: Vault + Drop, P: Spools + Drop, J: Naming> Stores<K, V
         ensures enabled { Enabled J.run.plan self.old.course.machine event }
         ensures runs { running self.old.course.machine ≡ true }
         ensures none { self.old.course.fault ≡ None }
+        ensures durable { IsDurable J.run K.tells self.old.course.machine.stored (K.left self.old.keeper (K.time self.old.keeper)) }
+        ensures settled { IsSettled V.tells V.time V.left V.held self.old.vault }
     {
         match self.course.reserve(event) {
             Ok(()) => Ok(()),
@@ -160,10 +168,11 @@ impl<K: Keeper + Drop, V: Vault + Drop, P: Spools + Drop, J: Naming> Stores<K, V
         Ok(())
     }
 
-    /// The run stops with a fault that no device of a count has caused.
+    /// The run stops with a fault that has its cause.
     pub fn stop(&mut self, worker: u8, fault: CoreFault<<P::S as Spool>::Fault>) -> Stopped
         requires runs { running self.old.course.machine ≡ true }
-        requires own { is_own fault ≡ true }
+        requires cause { IsCaused J.run.job J.run.told V.tells P.S.tells (counted J.run)
+            (record { keeper = K.faults self.old.keeper; vault = V.faults self.old.vault; spools = P.faults self.old.spools }) fault }
         ensures stops { StopsWith J.run.plan self.old.course self.new.course worker fault }
         ensures keeper { self.new.keeper ≡ self.old.keeper }
         ensures vault { self.new.vault ≡ self.old.vault }
@@ -197,14 +206,21 @@ impl<K: Keeper + Drop, V: Vault + Drop, P: Spools + Drop, J: Naming> Stores<K, V
         ensures same { self.now.course.machine.fault ≡ status_of self.now.course.fault }
         ensures small { IsSmall J.run.plan }
         ensures kept { Kept J.run.plan self.now.course.machine }
-        ensures rows { IsTrue J.run.told →
+        ensures rows { BeginsRight J.run K.tells →
             FitsKeeper J.run.job.flow (status_of self.now.course.fault) self.now.course.machine.stored (K.stored self.now.keeper) }
         ensures last { self.now.course.fault ≡ None → K.last self.now.keeper ≡ self.now.course.machine.stored }
         ensures is_sound { self.now.course.fault ≡ None → IsTrue (K.sound self.now.keeper) }
         ensures is_vault_sound { self.now.course.fault ≡ None → IsTrue (V.sound self.now.vault) }
         ensures caused { IfSome self.now.course.fault
-            (IsCaused J.run (K.faults self.now.keeper) (V.faults self.now.vault) (P.faults self.now.spools)) }
-        ensures tells { IsTrue J.run.told → IsTrue K.tells × IsTrue V.tells × IsTrue P.S.tells }
+            (IsCaused J.run.job J.run.told V.tells P.S.tells (counted J.run)
+            (record { keeper = K.faults self.now.keeper; vault = V.faults self.now.vault; spools = P.faults self.now.spools })) }
+        ensures later { AreLater (counted J.run)
+            (record { keeper = K.faults self.now.keeper; vault = V.faults self.now.vault; spools = P.faults self.now.spools }) }
+        ensures tells { IsTrue J.run.told → IsTrue V.tells × IsTrue P.S.tells }
+
+        // What a crash now leaves of the stores.
+        ensures durable { IsDurable J.run K.tells self.now.course.machine.stored (K.left self.now.keeper (K.time self.now.keeper)) }
+        ensures settled { running self.now.course.machine ≡ true → IsSettled V.tells V.time V.left V.held self.now.vault }
     {
         self.course.facts();
     }

@@ -160,7 +160,7 @@ fn drive<J: Naming>(
         step(alloc, &mut run);
     }
     if run.fault().is_none() && run.machine().is_running() {
-        run.stop(7, CoreFault::Large);
+        run.stop(7, CoreFault::Memory);
     }
     Ok(run.close())
 }

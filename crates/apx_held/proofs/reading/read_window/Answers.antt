@@ -9,7 +9,7 @@ use Rattle.apx_held.specs.Lent.{IsOfList}
 use Rattle.apx_held.proofs.reading.read_window.Goals as goal
 
 pub block_at-requires-clause-there : goal.block_at-requires-clause-there
-block_at-requires-clause-there g c = λ _ _.
+block_at-requires-clause-there g c =
     subst (λ (l : Listed Unnamed). c.loop-place.place < next_number l) (sym c.loop-place.invariant.same)
     (place_there c.args.list.now c.args.window c.start-to.result c.loop-place.place c.start-to.ensures.start c.loop-place-test.true)
 

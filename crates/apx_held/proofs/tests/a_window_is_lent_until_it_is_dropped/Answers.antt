@@ -38,27 +38,27 @@ lends plan g blocks gs is i lt = subst (λ (ks : List (List Holding)). CanLend 1
     here (suc i) h = absurd (omega arith)
 
 pub bring-requires-clause-next : goal.bring-requires-clause-next
-bring-requires-clause-next g c κs =
+bring-requires-clause-next g c =
     let was = c.take-progress.ensures.out ∙ ap (λ (hs : List (List Holding)). put_holding hs 0 0 (taken (holding hs 0 0))) c.in_ok-contents.ensures in
     subst (λ (hs : List (List Holding)). AreNext (holding hs 0 0).list c.in_ok-blocks.blocks.items) (sym was)
     (first_window _ c.in_ok-blocks.blocks.items _ c.in_ok-blocks.ensures.window (omega arith)).next
 
 pub lend-requires-clause-windows : goal.lend-requires-clause-windows
-lend-requires-clause-windows g c κs =
+lend-requires-clause-windows g c =
     let was = c.take-progress.ensures.out ∙ ap (λ (hs : List (List Holding)). put_holding hs 0 0 (taken (holding hs 0 0))) c.in_ok-contents.ensures in
     let takes = first_window _ c.in_ok-blocks.blocks.items _ c.in_ok-blocks.ensures.window (omega arith) in
-    lends _ _ _ _ (brought_one _ _ _ _ c.in_ok-blocks.blocks.items was c.in_ok-bring.ensures takes)
+    lends _ _ _ _ (c.spill.ensures.same ∙ brought_one _ _ _ _ c.in_ok-blocks.blocks.items was c.in_ok-bring.ensures takes)
 
 pub purge-requires-clause-floor : goal.purge-requires-clause-floor
-purge-requires-clause-floor g c κs =
+purge-requires-clause-floor g c =
     let was = c.take-progress.ensures.out ∙ ap (λ (hs : List (List Holding)). put_holding hs 0 0 (taken (holding hs 0 0))) c.in_ok-contents.ensures in
     let takes = first_window _ c.in_ok-blocks.blocks.items _ c.in_ok-blocks.ensures.window (omega arith) in
-    let is = c.in_ok-lists.ensures.same ∙ brought_one _ _ _ _ c.in_ok-blocks.blocks.items was c.in_ok-bring.ensures takes in
+    let is = c.in_ok-lists.ensures.same ∙ (c.spill.ensures.same ∙ brought_one _ _ _ _ c.in_ok-blocks.blocks.items was c.in_ok-bring.ensures takes) in
     subst (λ (hs : List (List Holding)). (holding hs 0 0).list.floor ≤ 1) (sym is) (omega arith)
 
 pub purge-requires-clause-top : goal.purge-requires-clause-top
-purge-requires-clause-top g c κs =
+purge-requires-clause-top g c =
     let was = c.take-progress.ensures.out ∙ ap (λ (hs : List (List Holding)). put_holding hs 0 0 (taken (holding hs 0 0))) c.in_ok-contents.ensures in
     let takes = first_window _ c.in_ok-blocks.blocks.items _ c.in_ok-blocks.ensures.window (omega arith) in
-    let is = c.in_ok-lists.ensures.same ∙ brought_one _ _ _ _ c.in_ok-blocks.blocks.items was c.in_ok-bring.ensures takes in
+    let is = c.in_ok-lists.ensures.same ∙ (c.spill.ensures.same ∙ brought_one _ _ _ _ c.in_ok-blocks.blocks.items was c.in_ok-bring.ensures takes) in
     subst (λ (hs : List (List Holding)). 1 ≤ (holding hs 0 0).list.top) (sym is) (omega arith)

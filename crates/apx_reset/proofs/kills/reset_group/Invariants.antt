@@ -1,5 +1,6 @@
 use Rattle.std.proofs.Common.{◌≡◌, IsTrue}
 use Rattle.apx_held.specs.Partly.{Partly}
+use Rattle.apx_stores.specs.Crashes.{EntriesFollow, NoPut}
 use Rattle.apx_reset.proofs.kills.reset_group.Given as goal
 
 abbrev pub invariant-loop-part : goal.invariant-loop-part
@@ -8,4 +9,5 @@ invariant-loop-part g l = record {
   course : l.stores.course ≡ l.fn.stores.course;
   held : IsTrue g.V.Vault.tells → g.V.Vault.held l.stores.vault ≡ g.V.Vault.held l.fn.stores.vault;
   keeper : l.stores.keeper ≡ l.fn.stores.keeper;
+  crash : IsTrue g.V.Vault.tells → EntriesFollow NoPut g.V.Vault.time g.V.Vault.left g.V.Vault.held l.fn.stores.vault l.stores.vault;
 }

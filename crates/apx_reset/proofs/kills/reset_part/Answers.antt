@@ -1,4 +1,4 @@
-use Rattle.std.proofs.Common.{◌≡◌, ℕ, true, false, sym, ap, ◌∙◌, arith}
+use Rattle.std.proofs.Common.{◌≡◌, ℕ, true, false, refl, sym, ap, ◌∙◌, arith}
 use Rattle.apx_history.specs.State.{oper, slot}
 use Rattle.apx_history.specs.Enabled.{in_tree}
 use Rattle.apx_list.specs.declared.plan.CutPlan.{CutPlan}
@@ -6,6 +6,8 @@ use Rattle.apx_machine.specs.Machine.{Running}
 use Rattle.apx_held.specs.Partition.{progress_at}
 use Rattle.apx_held.proofs.Mapping.{partly_skip}
 use Rattle.apx_held.proofs.Recovering.{rc_within}
+use Rattle.apx_stores.specs.Crashes.{NoPut}
+use Rattle.apx_stores.proofs.Crashing.{entries_stay, entries_end}
 use Rattle.apx_reset.proofs.Killing.{reset_here}
 use Rattle.apx_reset.proofs.Planned.{windows_are}
 use Rattle.apx_reset.proofs.kills.reset_part.Goals as goal
@@ -19,7 +21,7 @@ returns-then-not-in_tree-clause-partly g c =
     partly_skip run.job (record { all = run.told; vault = run.told }) run.plan c.args.stores.now.course.machine c.args.line o i c.args.contents.now c.requires.partly out
 
 pub new-held-requires-clause-from : goal.new-held-requires-clause-from
-new-held-requires-clause-from g c κs within =
+new-held-requires-clause-from g c =
     let run = g.J.Naming.run in
     let m = c.args.stores.now.course.machine in
     let o = c.args.id.op in
@@ -45,3 +47,15 @@ returns-clause-partly g c =
     let boundary : c.boundary.result ≡ (oper m o).boundary = c.boundary.ensures ∙ ap (λ (r : Running). (oper r.state o).boundary) c.machine-3.ensures in
     reset_here run.job run.told run.plan m c.args.line o i w c.args.contents.now c.put.new.self c.in_ok-progress.progress c.new-held.result c.args.cuts c.requires.partly c.requires.there inside at c.requires.cuts
     c.new-held.ensures c.put.ensures (λ t. c.in_ok-progress.ensures.carried t ∙ ap (λ (b : ℕ). progress_at run.job o b i w) boundary)
+
+pub returns-then-not-in_tree-clause-crash : goal.returns-then-not-in_tree-clause-crash
+returns-then-not-in_tree-clause-crash g c = λ t.
+    entries_stay g.V.Vault.time g.V.Vault.left g.V.Vault.held NoPut c.args.stores.now.vault c.args.stores.now.vault refl (c.facts.ensures.settled c.requires.runs t)
+
+pub returns-in_err-spool-clause-crash : goal.returns-in_err-spool-clause-crash
+returns-in_err-spool-clause-crash g c = λ t.
+    entries_end g.V.Vault.time g.V.Vault.left g.V.Vault.held NoPut c.args.stores.now.vault c.restored.new.stores.vault c.fresh.new.self.vault c.fresh.ensures.vault (c.restored.ensures.crash t)
+
+pub returns-clause-crash : goal.returns-clause-crash
+returns-clause-crash g c = λ t.
+    entries_end g.V.Vault.time g.V.Vault.left g.V.Vault.held NoPut c.args.stores.now.vault c.restored.new.stores.vault c.fresh.new.self.vault c.fresh.ensures.vault (c.restored.ensures.crash t)

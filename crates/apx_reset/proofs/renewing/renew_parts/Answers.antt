@@ -11,7 +11,9 @@ use Rattle.apx_held.specs.Holding.{Holding}
 use Rattle.apx_held.specs.Partition.{progress_at}
 use Rattle.apx_renew.specs.Renewed.{AreRenewed, KeepRenewed}
 use Rattle.apx_renew.proofs.Group.{renewed_none, kept_none}
-use Rattle.apx_reset.proofs.Saving.{saved_more, one_more, begun_here, any_default}
+use Rattle.apx_stores.proofs.Crashing.{entries_stay, entries_end}
+use Rattle.apx_reset.specs.Put.{IsRenewal}
+use Rattle.apx_reset.proofs.Saving.{saved_more, one_more, begun_here, any_default, renewal_put}
 use Rattle.apx_reset.proofs.renewing.renew_parts.Goals as goal
 
 pub loop-progress-init : goal.loop-progress-init
@@ -23,6 +25,8 @@ loop-progress-init g c =
       kept = λ t. kept_none run.job run.told first.op first.boundary _;
       course = refl;
       keeper = refl;
+      crash = λ t. entries_stay g.V.Vault.time g.V.Vault.left g.V.Vault.held (IsRenewal run first.op first.boundary (length c.args.parts.items)) c.args.stores.now.vault c.args.stores.now.vault refl
+          (c.facts.ensures.settled c.requires.runs t);
     }
 
 pub overflow_cast-id : goal.overflow_cast-id
@@ -33,7 +37,7 @@ overflow_cast-id g c =
     omega (arith, t.0, c.requires.few, c.loop-progress.invariant.renewed.count, c.len.ensures, c.loop-progress.group.ok)
 
 pub renew_part-requires-clause-small : goal.renew_part-requires-clause-small
-renew_part-requires-clause-small g c κs within =
+renew_part-requires-clause-small g c =
     let len : c.into_iter-progress-iterator.result.rest.len ≡ length c.args.parts.items = search rules in
     let road = YieldsList-from_vec c.args.parts.items (c.into_iter-progress-iterator.ensures.into_iter_gives.0) len in
     let t = YieldsList-turn road c.loop-progress.yielded _ c.loop-progress.yielded_by _ c.next.new.self c.in-Some.progress c.in-Some.is c.next.ensures.steps in
@@ -63,6 +67,10 @@ loop-progress-preserved g c =
           c.in_ok-held.ensures.progress is);
       course = ap (λ s. s.course) c.in_ok-add.ensures.same ∙ (c.in_ok-held.ensures.course ∙ c.loop-progress.invariant.course);
       keeper = c.add.ensures.keeper ∙ (c.renew_part.ensures.keeper ∙ c.loop-progress.invariant.keeper);
+      crash = λ tells. entries_end g.V.Vault.time g.V.Vault.left g.V.Vault.held (IsRenewal run first.op first.boundary (length c.args.parts.items)) c.args.stores.now.vault c.renew_part.new.stores.vault c.add.new.stores.vault
+          c.add.ensures.vault
+          (renewal_put run g.V.Vault.time g.V.Vault.left g.V.Vault.held first n c.len.result (length c.args.parts.items) progress c.args.stores.now.vault c.loop-progress.stores.vault c.renew_part.new.stores.vault
+          t.0 c.requires.window part is (c.loop-progress.invariant.crash tells) (c.renew_part.ensures.crash tells));
     }
 
 pub returns-clause-renewed : goal.returns-clause-renewed
@@ -81,3 +89,31 @@ returns-clause-kept g c = λ tells.
     let end = YieldsList-end road c.loop-progress.yielded _ c.loop-progress.yielded_by _ c.next.new.self c.in-None.is c.next.ensures.steps in
     subst (λ (k : ℕ). KeepRenewed run.job run.told c.args.first.op c.args.first.boundary k (entry_at (g.V.Vault.held c.args.stores.now.vault)) (entry_at (g.V.Vault.held c.loop-progress.stores.vault))) end.1
     (c.loop-progress.invariant.kept tells)
+
+pub returns-in_err-held-clause-crash : goal.returns-in_err-held-clause-crash
+returns-in_err-held-clause-crash g c = λ tells.
+    let run = g.J.Naming.run in
+    let first = c.args.first in
+    let n = length c.loop-progress.yielded in
+    let len : c.into_iter-progress-iterator.result.rest.len ≡ length c.args.parts.items = search rules in
+    let road = YieldsList-from_vec c.args.parts.items (c.into_iter-progress-iterator.ensures.into_iter_gives.0) len in
+    let t = YieldsList-turn road c.loop-progress.yielded _ c.loop-progress.yielded_by _ c.next.new.self c.in-Some.progress c.in-Some.is c.next.ensures.steps in
+    let part : c.len.result ≡ n = omega (arith, c.loop-progress.invariant.renewed.count, c.len.ensures, c.loop-progress.group.ok) in
+    let is : IsTrue run.told → c.in-Some.progress ≡ progress_at run.job first.op first.boundary n first.boundary = λ told. (t.1 ∙ any_default c.args.parts.items n _ at_start t.0 ∙ (c.requires.carried told n t.0 ∙ ap (λ (w : ℕ). progress_at run.job first.op first.boundary n w) c.requires.window)) in
+    renewal_put run g.V.Vault.time g.V.Vault.left g.V.Vault.held first n c.len.result (length c.args.parts.items) c.in-Some.progress c.args.stores.now.vault c.loop-progress.stores.vault c.renew_part.new.stores.vault
+    t.0 c.requires.window part is (c.loop-progress.invariant.crash tells) (c.renew_part.ensures.crash tells)
+
+pub returns-in_err-add-clause-crash : goal.returns-in_err-add-clause-crash
+returns-in_err-add-clause-crash g c = λ tells.
+    let run = g.J.Naming.run in
+    let first = c.args.first in
+    let n = length c.loop-progress.yielded in
+    let len : c.into_iter-progress-iterator.result.rest.len ≡ length c.args.parts.items = search rules in
+    let road = YieldsList-from_vec c.args.parts.items (c.into_iter-progress-iterator.ensures.into_iter_gives.0) len in
+    let t = YieldsList-turn road c.loop-progress.yielded _ c.loop-progress.yielded_by _ c.next.new.self c.in-Some.progress c.in-Some.is c.next.ensures.steps in
+    let part : c.len.result ≡ n = omega (arith, c.loop-progress.invariant.renewed.count, c.len.ensures, c.loop-progress.group.ok) in
+    let is : IsTrue run.told → c.in-Some.progress ≡ progress_at run.job first.op first.boundary n first.boundary = λ told. (t.1 ∙ any_default c.args.parts.items n _ at_start t.0 ∙ (c.requires.carried told n t.0 ∙ ap (λ (w : ℕ). progress_at run.job first.op first.boundary n w) c.requires.window)) in
+    entries_end g.V.Vault.time g.V.Vault.left g.V.Vault.held (IsRenewal run first.op first.boundary (length c.args.parts.items)) c.args.stores.now.vault c.renew_part.new.stores.vault c.add.new.stores.vault
+    c.add.ensures.vault
+    (renewal_put run g.V.Vault.time g.V.Vault.left g.V.Vault.held first n c.len.result (length c.args.parts.items) c.in-Some.progress c.args.stores.now.vault c.loop-progress.stores.vault c.renew_part.new.stores.vault
+    t.0 c.requires.window part is (c.loop-progress.invariant.crash tells) (c.renew_part.ensures.crash tells))

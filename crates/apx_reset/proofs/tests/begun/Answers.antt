@@ -15,7 +15,7 @@ use Rattle.apx_reset.proofs.tests.begun.Goals as goal
 
 pub new-stores-requires-clause-last : goal.new-stores-requires-clause-last
 unfolding beginning
-new-stores-requires-clause-last g c κs within =
+new-stores-requires-clause-last g c =
     ap (λ (windows : List (List Tuple)). length windows) c.new-2.ensures
     ∙ (c.requires.stored ∙ sym (ap (λ (m : State). m.stored) c.in_ok-course.ensures.machine))
 

@@ -1,7 +1,5 @@
 use Rattle.std.proofs.Common.{◌&&◌}
-use Rattle.apx_pass.specs.Pass.{mean_up_to}
 use Rattle.apx_job.specs.Job.{plan_of}
-use Rattle.apx_sim.proofs.Told.{same_rows}
 use Rattle.apx_sim.proofs.whole.simulate.Given as goal
 
 abbrev pub ghosts-run : goal.ghosts-run
@@ -9,9 +7,10 @@ ghosts-run g a = record {
   run = record {
     job = a.job.value;
     plan = plan_of a.job.value;
-    told = (g.K.Keeper.tells && (g.V.Vault.tells && g.P.S.Spool.tells))
-        && same_rows (g.K.Keeper.stored a.devices.keeper) (mean_up_to a.job.value.flow (g.K.Keeper.last a.devices.keeper));
+    told = g.V.Vault.tells && g.P.S.Spool.tells;
     stored = g.K.Keeper.last a.devices.keeper;
+    rows = g.K.Keeper.stored a.devices.keeper;
+    entries = g.V.Vault.held a.devices.vault;
     from = 0;
     keeper = g.K.Keeper.faults a.devices.keeper;
     vault = g.V.Vault.faults a.devices.vault;

@@ -6,6 +6,6 @@ use Rattle.apx_stores.proofs.tests.drive.Goals as goal
 
 pub new-run-requires-clause-last : goal.new-run-requires-clause-last
 unfolding beginning
-new-run-requires-clause-last g c κs within =
+new-run-requires-clause-last g c =
     ap (λ (windows : List (List Tuple)). length windows) c.requires.empty
     ∙ (c.requires.stored ∙ sym (ap (λ (m : State). m.stored) c.in_ok-course.ensures.machine))

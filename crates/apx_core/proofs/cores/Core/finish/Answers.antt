@@ -1,70 +1,38 @@
-use Rattle.std.proofs.Common.{◌≡◌, ◌<◌, ◌≤◌, List, length, sym, ap, subst, ◌∙◌, arith}
+use Rattle.std.proofs.Common.{◌≡◌, ℕ, true, List, refl, sym, ap, subst, ◌∙◌}
 use Rattle.apx_history.specs.declared.Event.TheVariants.{Finish}
-use Rattle.apx_history.specs.State.{State, oper, slot}
+use Rattle.apx_history.specs.State.{State}
+use Rattle.apx_history.specs.Effects.{next}
+use Rattle.apx_history.specs.Enabled.{can}
 use Rattle.apx_history.specs.Conditions.{CanFinish}
-use Rattle.apx_history.proofs.Lines.{limit-start}
-use Rattle.apx_history.proofs.Frames.{in_epoch}
 use Rattle.apx_device.specs.Vault.{entry_at}
-use Rattle.apx_pass.specs.Pass.{windows}
-use Rattle.apx_job.specs.Job.{boundary_of}
-use Rattle.apx_shares.specs.Given.{part_progress, part_rows}
 use Rattle.apx_held.specs.Holding.{Holding, holding, put_holding, brought}
-use Rattle.apx_held.specs.Partition.{parts_from, progress_at, tuples_at}
+use Rattle.apx_held.specs.Fits.{Fits}
 use Rattle.apx_held.proofs.Fitting.{held_of}
-use Rattle.apx_course.specs.declared.faults.CoreFault.TheVariants.{Memory}
 use Rattle.apx_core.specs.Core.{telling, IsCore}
-use Rattle.apx_core.proofs.Going.{core_stops, core_stays, core_did}
-use Rattle.apx_core.proofs.Planned.{windows_are, operators_are, boundary_is}
-use Rattle.apx_core.proofs.Bearing.{work_at}
-use Rattle.apx_core.proofs.Bringing.{IsBrought, brought_by, brought_next, finished_fits}
+use Rattle.apx_core.proofs.Checkpoints.{left_so}
+use Rattle.apx_core.proofs.Going.{core_stops, later_stops, later_did}
+use Rattle.apx_core.proofs.Bearing.{numbered, work_at}
+use Rattle.apx_core.proofs.Bringing.{finish_next, finish_fits}
+use Rattle.apx_core.proofs.Unlent.{unbrought_caused}
 use Rattle.apx_core.proofs.cores.Core.finish.Goals as goal
 
 pub bring-requires-clause-there : goal.bring-requires-clause-there
-bring-requires-clause-there g c κs within =
+bring-requires-clause-there g c =
     let run = g.J.Naming.run in
-    let tells = telling run g.V.Vault.tells in
-    let old = c.self.inside.stores in
-    let m = old.course.machine in
-    let hs = c.self.inside.contents in
-    let o = c.id-id.result.op in
-    let i = c.id-id.result.part in
-    let w = c.window.result in
-    let can : CanFinish run.plan m o i w = c.reserve.ensures.enabled in
-    let fits = c.self.invariant.1.fits c.reserve.ensures.none in
-    let kept = c.reserve.ensures.kept in
-    let sound = kept.each o i can.part in
-    let opened = sound.opened w can.opened in
-    let there : w ≤ windows run.job.flow = (let a = opened.1 in let b = limit-start o run.plan.lines m.left run.plan.windows in
-    let d = windows_are run.plan run.job c.self.invariant.1.planned in omega (arith, a, b, d)) in
-    let op_there : o < length run.job.flow.nodes = (let a = can.part.0 in let b = kept.ops in let d = operators_are run.plan run.job c.self.invariant.1.planned in omega (arith, a, b, d)) in
-    let comes = brought_by run.job c.known.ensures.graph o w op_there c.args.done.rows c.args.done.blocks.items (work_at g.J.Naming.run c.args.claim c.args.done c.id-id.result.op c.id-id.result.part c.window.result c.id-id.ensures.op c.id-id.ensures.part c.window.ensures c.requires.work).blocks in
-    held_of run.job tells (entry_at (g.V.Vault.held old.vault)) m hs o i fits can.part
-
-pub bring-requires-clause-next : goal.bring-requires-clause-next
-bring-requires-clause-next g c κs within =
-    let run = g.J.Naming.run in
-    let tells = telling run g.V.Vault.tells in
-    let old = c.self.inside.stores in
-    let m = old.course.machine in
-    let hs = c.self.inside.contents in
-    let o = c.id-id.result.op in
-    let i = c.id-id.result.part in
-    let w = c.window.result in
-    let can : CanFinish run.plan m o i w = c.reserve.ensures.enabled in
-    let fits = c.self.invariant.1.fits c.reserve.ensures.none in
-    let kept = c.reserve.ensures.kept in
-    let sound = kept.each o i can.part in
-    let opened = sound.opened w can.opened in
-    let there : w ≤ windows run.job.flow = (let a = opened.1 in let b = limit-start o run.plan.lines m.left run.plan.windows in
-    let d = windows_are run.plan run.job c.self.invariant.1.planned in omega (arith, a, b, d)) in
-    let op_there : o < length run.job.flow.nodes = (let a = can.part.0 in let b = kept.ops in let d = operators_are run.plan run.job c.self.invariant.1.planned in omega (arith, a, b, d)) in
-    let comes = brought_by run.job c.known.ensures.graph o w op_there c.args.done.rows c.args.done.blocks.items (work_at g.J.Naming.run c.args.claim c.args.done c.id-id.result.op c.id-id.result.part c.window.result c.id-id.ensures.op c.id-id.ensures.part c.window.ensures c.requires.work).blocks in
-    brought_next run.job tells.all o (oper m o).boundary i (slot m o i) (holding hs o i).list c.args.done.rows c.args.done.blocks.items
-    (subst (λ k. IsBrought run.job o k c.args.done.rows c.args.done.blocks.items) opened.0 comes)
-    (let a = opened.0 in omega (arith, a, there)) (fits.each o i can.part).list
+    let m = c.self.inside.stores.course.machine in
+    let can : CanFinish run.plan m c.id-id.result.op c.id-id.result.part c.window.result = c.reserve.ensures.enabled in
+    held_of run.job (telling run g.V.Vault.tells) _ m c.self.inside.contents c.id-id.result.op c.id-id.result.part (c.self.invariant.1.fits c.reserve.ensures.none) can.part
 
 pub bring-requires-clause-small : goal.bring-requires-clause-small
-bring-requires-clause-small g c κs within = c.requires.work.small
+bring-requires-clause-small g c = c.requires.work.small
+
+pub bring-requires-clause-next : goal.bring-requires-clause-next
+bring-requires-clause-next g c =
+    let run = g.J.Naming.run in
+    finish_next run (telling run g.V.Vault.tells) _ c.self.inside.stores.course.machine c.self.inside.contents
+    (numbered c.id-id.result.op c.id-id.result.part c.window.result c.args.claim) c.args.done c.self.invariant.1.planned c.known.ensures.graph c.reserve.ensures.kept
+    (c.self.invariant.1.fits c.reserve.ensures.none) c.reserve.ensures.enabled
+    (work_at run c.args.claim c.args.done _ _ _ c.id-id.ensures.op c.id-id.ensures.part c.window.ensures c.requires.work)
 
 pub invariant_of-self : goal.invariant_of-self
 invariant_of-self g c = (
@@ -74,56 +42,43 @@ invariant_of-self g c = (
 )
 
 pub invariant_of-self-in-Ok : goal.invariant_of-self-in-Ok
-unfolding progress_at tuples_at
 invariant_of-self-in-Ok g c =
     let run = g.J.Naming.run in
-    let tells = telling run g.V.Vault.tells in
-    let old = c.self.inside.stores in
-    let m = old.course.machine in
-    let hs = c.self.inside.contents in
-    let o = c.id-id.result.op in
-    let i = c.id-id.result.part in
-    let w = c.window.result in
-    let can : CanFinish run.plan m o i w = c.reserve.ensures.enabled in
-    let fits = c.self.invariant.1.fits c.reserve.ensures.none in
-    let kept = c.reserve.ensures.kept in
-    let sound = kept.each o i can.part in
-    let opened = sound.opened w can.opened in
-    let there : w ≤ windows run.job.flow = (let a = opened.1 in let b = limit-start o run.plan.lines m.left run.plan.windows in
-    let d = windows_are run.plan run.job c.self.invariant.1.planned in omega (arith, a, b, d)) in
-    let mid = c.reserve.new.self.course in
-    let new = c.add.new.self in
-    let machine = c.in_ok-reserve.ensures.machine in
     let vt = g.V.Vault.tells in
-    let entries = g.V.Vault.held old.vault in
-    let stays = core_stays run vt entries old.course mid hs c.self.invariant.1 machine c.in_ok-reserve.ensures.fault c.reserve.ensures.none in
-    let base = sound.saved (slot m o i).rc sound.rc_saved in
-    let above : (oper m o).boundary < w = (let a = base.2 in let b = sound.rc in let d = opened.0 in omega (arith, a, b, d)) in
-    let epoch : boundary_of run.job o w ≡ (oper m o).boundary = sym (boundary_is run.plan run.job c.self.invariant.1.planned o w)
-    ∙ in_epoch run.plan c.reserve.ensures.is m kept o w can.part.0 above opened.1 in
-    let op_there : o < length run.job.flow.nodes = (let a = can.part.0 in let b = kept.ops in let d = operators_are run.plan run.job c.self.invariant.1.planned in omega (arith, a, b, d)) in
-    let comes = brought_by run.job c.known.ensures.graph o w op_there c.args.done.rows c.args.done.blocks.items (work_at g.J.Naming.run c.args.claim c.args.done c.id-id.result.op c.id-id.result.part c.window.result c.id-id.ensures.op c.id-id.ensures.part c.window.ensures c.requires.work).blocks in
-    let hs' = put_holding hs o i (brought c.args.done.state c.args.done.blocks.items (holding hs o i)) in
-    let fits' = finished_fits run.job tells (entry_at entries) m hs o i w c.args.done.state c.args.done.rows c.args.done.blocks.items fits can.part opened.0 there
-    (let a = sound.floor in a) comes
-    (λ t. ((work_at g.J.Naming.run c.args.claim c.args.done c.id-id.result.op c.id-id.result.part c.window.result c.id-id.ensures.op c.id-id.ensures.part c.window.ensures c.requires.work).part t).progress_is ∙ ap (λ b. part_progress run.job.flow (parts_from run.job o b) i w o) epoch)
-    (λ t. ((work_at g.J.Naming.run c.args.claim c.args.done c.id-id.result.op c.id-id.result.part c.window.result c.id-id.ensures.op c.id-id.ensures.part c.window.ensures c.requires.work).part t).rows_are ∙ ap (λ b. part_rows run.job.flow (parts_from run.job o b) i w o) epoch) in (
+    let tells = telling run vt in
+    let hs = c.self.inside.contents in
+    let claim = numbered c.id-id.result.op c.id-id.result.part c.window.result c.args.claim in
+    let u = c.worker-worker.result in
+    let entries = g.V.Vault.held c.self.inside.stores.vault in
+    let machine = c.in_ok-reserve.ensures.machine in
+    let m = c.self.inside.stores.course.machine in
+    let asked : can run.plan m (Finish c.args.claim.op c.args.claim.part c.args.claim.window) ≡ true =
+    subst (λ (n : State). can run.plan n (Finish c.args.claim.op c.args.claim.part c.args.claim.window) ≡ true) (sym (ap (λ s. s.stores.course.machine) c.self.view_is)) c.requires.can in
+    let may : can run.plan m (Finish claim.op claim.part claim.window) ≡ true =
+    subst (λ (o : ℕ). can run.plan m (Finish o claim.part claim.window) ≡ true) (sym c.id-id.ensures.op)
+    (subst (λ (i : ℕ). can run.plan m (Finish c.args.claim.op i claim.window) ≡ true) (sym c.id-id.ensures.part)
+    (subst (λ (w : ℕ). can run.plan m (Finish c.args.claim.op c.args.claim.part w) ≡ true) (sym c.window.ensures) asked)) in
+    let hs' = put_holding hs claim.op claim.part (brought c.args.done.state c.args.done.blocks.items (holding hs claim.op claim.part)) in
+    let fits : Fits run.job tells (entry_at entries) (next run.plan c.reserve.new.self.course.machine u (Finish claim.op claim.part claim.window)) hs' =
+    subst (λ (m : State). Fits run.job tells (entry_at entries) (next run.plan m u (Finish claim.op claim.part claim.window)) hs') (sym machine)
+    (finish_fits run tells (entry_at entries) c.self.inside.stores.course.machine hs claim c.args.done c.self.invariant.1.planned c.known.ensures.graph
+    c.reserve.ensures.kept (c.self.invariant.1.fits c.reserve.ensures.none) c.reserve.ensures.enabled
+    (work_at run c.args.claim c.args.done _ _ _ c.id-id.ensures.op c.id-id.ensures.part c.window.ensures c.requires.work) c.reserve.ensures.is (λ t. t)) in (
       c.self.invariant.0,
-      subst (λ v. IsCore run vt (g.V.Vault.held v) new.course c.bring.new.self) (sym (c.add.ensures.vault ∙ c.reserve.ensures.vault))
-          (subst (λ (h : List (List Holding)). IsCore run vt entries new.course h) (sym c.in-Ok.ensures)
-          (core_did run vt entries mid new.course hs stays entries hs' c.worker-worker.result (Finish o i w) c.add.ensures.did
-          (λ _ _. subst (λ (n : State). Rattle.apx_held.specs.Fits.Fits run.job tells (entry_at entries) (Rattle.apx_history.specs.Effects.next run.plan n c.worker-worker.result (Finish o i w)) hs')
-          (sym machine) fits'))),
+      subst (λ v. IsCore run vt (g.V.Vault.held v) c.add.new.self.course c.bring.new.contents) (sym (c.add.ensures.vault ∙ c.reserve.ensures.vault))
+          (subst (λ (h : List (List Holding)). IsCore run vt entries c.add.new.self.course h) (sym c.in-Ok.ensures.brought)
+          (later_did run vt entries c.self.inside.stores.course c.reserve.new.self.course hs c.self.invariant.1 machine c.in_ok-reserve.ensures.fault c.reserve.ensures.none
+          c.add.new.self.course entries hs' u (Finish claim.op claim.part claim.window) c.add.ensures.did fits
+          (λ tells. left_so run m c.reserve.ensures.is c.reserve.ensures.kept (Finish claim.op claim.part claim.window) _ _ may refl refl))),
     )
 
 pub invariant_of-self-in-Err : goal.invariant_of-self-in-Err
-invariant_of-self-in-Err g c =
-    let run = g.J.Naming.run in
-    let old = c.self.inside.stores in
-    let vt = g.V.Vault.tells in
-    let entries = g.V.Vault.held old.vault in
-    let stays = core_stays run vt entries old.course c.reserve.new.self.course c.self.inside.contents c.self.invariant.1
-    c.in_ok-reserve.ensures.machine c.in_ok-reserve.ensures.fault c.reserve.ensures.none in (
-      c.self.invariant.0,
-      core_stops run vt entries c.reserve.new.self.course c.stop.new.self.course c.self.inside.contents stays _ _ c.worker-worker.result (Memory, c.stop.ensures.stops),
-    )
+invariant_of-self-in-Err g c = (
+  c.self.invariant.0,
+  later_stops g.J.Naming.run g.V.Vault.tells (g.V.Vault.held c.self.inside.stores.vault) c.self.inside.stores.course c.reserve.new.self.course c.self.inside.contents
+      c.self.invariant.1 c.in_ok-reserve.ensures.machine c.in_ok-reserve.ensures.fault c.reserve.ensures.none c.stop.new.self.course _ _ c.worker-worker.result
+      (c.in-Err.fault, c.stop.ensures.stops),
+)
+
+pub stop-requires-clause-cause : goal.stop-requires-clause-cause
+stop-requires-clause-cause g c = unbrought_caused g.J.Naming.run.job g.J.Naming.run.told g.V.Vault.tells g.P.S.Spool.tells _ _ c.in-Err.fault c.in-Err.ensures.cause

@@ -9,18 +9,19 @@ use Rattle.apx_part.specs.Fed.{plan_in}
 use Rattle.apx_held.specs.Begun.{AreFirst}
 use Rattle.apx_held.specs.Fits.{Fits}
 use Rattle.apx_held.proofs.Begun.{fits_begin}
-use Rattle.apx_core.specs.Core.{telling, IsCore}
+use Rattle.apx_core.specs.Core.{telling, HasRunSaves, IsCore}
+use Rattle.apx_core.proofs.Checkpoints.{saves_first}
 use Rattle.apx_core.proofs.cores.Core.new.Goals as goal
 
 pub new-requires-clause-last : goal.new-requires-clause-last
 unfolding beginning
-new-requires-clause-last g c κs within = c.requires.stored ∙ sym (ap (λ (m : State). m.stored) c.in-Ok.ensures.machine)
+new-requires-clause-last g c = c.requires.stored ∙ sym (ap (λ (m : State). m.stored) c.in-Ok.ensures.machine)
 
 pub new-requires-clause-rows : goal.new-requires-clause-rows
 unfolding beginning
-new-requires-clause-rows g c κs within t =
-    c.requires.rows t
-    ∙ ap (λ (k : ℕ). mean_up_to g.J.Naming.run.job.flow k) (c.requires.stored ∙ sym (ap (λ (m : State). m.stored) c.in-Ok.ensures.machine))
+new-requires-clause-rows g c begins =
+    sym (c.requires.rows begins.keeper_tells)
+    ∙ (begins.rows ∙ ap (λ (k : ℕ). mean_up_to g.J.Naming.run.job.flow k) (sym (ap (λ (m : State). m.stored) c.in-Ok.ensures.machine)))
 
 pub invariant_of-result : goal.invariant_of-result
 invariant_of-result g c =
@@ -36,5 +37,7 @@ invariant_of-result g c =
       planned = c.requires.planned;
       fits = λ _. subst (λ (m : State). Fits run.job tells (entry_at (g.V.Vault.held c.args.devices.vault)) m hs) (sym machine)
           (fits_begin run.job tells _ run.plan run.stored hs first);
+      saves = λ _ told. subst (λ (m : State). HasRunSaves run m (entry_at (g.V.Vault.held c.args.devices.vault))) (sym machine)
+          (saves_first run run.stored (g.V.Vault.held c.args.devices.vault) (c.requires.entries told));
     } in
     (c.requires.job, subst (λ s. IsCore run g.V.Vault.tells (g.V.Vault.held s.vault) s.course hs) (sym c.new.ensures) core)

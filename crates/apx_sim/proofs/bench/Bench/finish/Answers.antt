@@ -42,7 +42,7 @@ taken-hand-requires-clause-held g c =
     held_some m hands o i w held
 
 pub finish-requires-clause-can : goal.finish-requires-clause-can
-finish-requires-clause-can g c = λ _ _.
+finish-requires-clause-can g c =
     let plan = g.J.Naming.run.plan in
     let m = c.self.inside.core.stores.course.machine in
     let hands = c.self.inside.hands in
@@ -59,7 +59,7 @@ finish-requires-clause-can g c = λ _ _.
     (ap (λ k. k.stores.course.machine) c.in_ok-claim.ensures.core) (finish_of o i w 0 (record { claim = claim; done = None }) fits) may
 
 pub finish-requires-clause-opened : goal.finish-requires-clause-opened
-finish-requires-clause-opened g c = λ _ _.
+finish-requires-clause-opened g c =
     let plan = g.J.Naming.run.plan in
     let m = c.self.inside.core.stores.course.machine in
     let hands = c.self.inside.hands in

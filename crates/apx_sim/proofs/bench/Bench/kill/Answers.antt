@@ -9,6 +9,8 @@ use Rattle.apx_sim.specs.Hand.{Handed}
 use Rattle.apx_sim.specs.Bench.{AreHands, IsVictim}
 use Rattle.apx_sim.proofs.Opened.{place_few, may_as, victim_held, held_some, held_fits, takes_claim}
 use Rattle.apx_sim.proofs.Benches.{StartsNone, answered, hands_kill, passed}
+use Rattle.apx_stores.proofs.Crashing.{entries_begin}
+use Rattle.apx_stores.specs.Crashes.{NoPut}
 use Rattle.apx_sim.proofs.bench.Bench.kill.Goals as goal
 
 pub taken-hand-requires-clause-op : goal.taken-hand-requires-clause-op
@@ -53,7 +55,7 @@ taken-hand-requires-clause-held g c =
     held_some m hands o i held.0 held.1
 
 pub kill-requires-clause-claim : goal.kill-requires-clause-claim
-kill-requires-clause-claim g c = λ _ _.
+kill-requires-clause-claim g c =
     let plan = g.J.Naming.run.plan in
     let m = c.self.inside.core.stores.course.machine in
     let hands = c.self.inside.hands in
@@ -95,3 +97,11 @@ invariant_of-self-in-None g c =
     passed plan old c.kill-in-None.new.self.stores.course 0 c.self.inside.hands c.self.invariant (Kill l) (Kill l) other
     (may_as plan c.args.self.now.stores.course.machine old.machine (Kill l) (Kill l) (ap (λ k. k.stores.course.machine) c.self.view_is) refl c.requires.can)
     refl c.kill-in-None.result c.kill-in-None.ensures.did c.kill-in-None.ensures.stops
+
+pub returns-in-Some-clause-entries : goal.returns-in-Some-clause-entries
+returns-in-Some-clause-entries g c = λ t.
+    entries_begin g.V.Vault.time g.V.Vault.left g.V.Vault.held NoPut c.args.self.now.stores.vault c.self.inside.core.stores.vault c.kill.new.self.stores.vault (ap (λ k. k.stores.vault) c.self.view_is) (c.kill.ensures.crash t)
+
+pub returns-in-None-clause-entries : goal.returns-in-None-clause-entries
+returns-in-None-clause-entries g c = λ t.
+    entries_begin g.V.Vault.time g.V.Vault.left g.V.Vault.held NoPut c.args.self.now.stores.vault c.self.inside.core.stores.vault c.kill-in-None.new.self.stores.vault (ap (λ k. k.stores.vault) c.self.view_is) (c.kill-in-None.ensures.crash t)

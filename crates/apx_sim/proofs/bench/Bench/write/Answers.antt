@@ -10,6 +10,8 @@ use Rattle.apx_sim.specs.Hand.{Handed}
 use Rattle.apx_sim.specs.Bench.{AreHands}
 use Rattle.apx_sim.proofs.Opened.{place_few, held_for, held_some, held_fits, also_for, open_for, did_as, stops_as, write_of, may_as, err_any}
 use Rattle.apx_sim.proofs.Benches.{hands_stopped, hands_write}
+use Rattle.apx_stores.proofs.Crashing.{rows_stay}
+use Rattle.apx_stores.specs.Crashes.{RowsFollow}
 use Rattle.apx_sim.proofs.bench.Bench.write.Goals as goal
 
 pub taken-hand-requires-clause-op : goal.taken-hand-requires-clause-op
@@ -37,7 +39,7 @@ taken-hand-requires-clause-held g c =
     held_some m hands o 0 w held
 
 pub write-requires-clause-can : goal.write-requires-clause-can
-write-requires-clause-can g c = λ _ _.
+write-requires-clause-can g c =
     let plan = g.J.Naming.run.plan in
     let m = c.self.inside.core.stores.course.machine in
     let hands = c.self.inside.hands in
@@ -56,7 +58,7 @@ write-requires-clause-can g c = λ _ _.
     (ap (λ k. k.stores.course.machine) c.in_ok-claim.ensures.core) (write_of o 0 w 0 it fits) may
 
 pub write-requires-clause-opened : goal.write-requires-clause-opened
-write-requires-clause-opened g c = λ _ _.
+write-requires-clause-opened g c =
     let plan = g.J.Naming.run.plan in
     let m = c.self.inside.core.stores.course.machine in
     let hands = c.self.inside.hands in
@@ -74,7 +76,7 @@ write-requires-clause-opened g c = λ _ _.
     subst (λ (k : State). IsOpenFor k claim) (sym (ap (λ k. k.stores.course.machine) c.in_ok-claim.ensures.core)) (open_for m o 0 w 0 it fits held.opened)
 
 pub write-requires-clause-sink : goal.write-requires-clause-sink
-write-requires-clause-sink g c = λ _ _.
+write-requires-clause-sink g c =
     let plan = g.J.Naming.run.plan in
     let m = c.self.inside.core.stores.course.machine in
     let hands = c.self.inside.hands in
@@ -161,3 +163,21 @@ returns-clause-did g c =
     let it : Handed = record { claim = claim; done = None } in
     did_as plan c.work.new.core.stores.course c.args.self.now.stores.course c.write.new.self.stores.course claim.worker 0 (Write claim.window) (Write w)
     (ap (λ k. k.stores.course) c.in_ok-claim.ensures.core ∙ ap (λ k. k.stores.course) c.self.view_is) fits.worker (write_of o 0 w 0 it fits) c.in_ok-write.ensures.did
+
+pub returns-in_err-claim-clause-rows : goal.returns-in_err-claim-clause-rows
+returns-in_err-claim-clause-rows g c =
+    let run = g.J.Naming.run in
+    subst (λ k. RowsFollow run g.K.Keeper.tells k.stores.course.machine.stored g.K.Keeper.time g.K.Keeper.left k.stores.keeper c.work.new.core.stores.keeper) c.self.view_is
+    (rows_stay run g.K.Keeper.tells g.K.Keeper.time g.K.Keeper.left c.self.inside.core.stores.course.machine.stored c.self.inside.core.stores.keeper c.work.new.core.stores.keeper c.work.ensures.keeper c.facts.ensures.durable)
+
+pub returns-in_err-write-clause-rows : goal.returns-in_err-write-clause-rows
+returns-in_err-write-clause-rows g c =
+    let run = g.J.Naming.run in
+    subst (λ k. RowsFollow run g.K.Keeper.tells k.stores.course.machine.stored g.K.Keeper.time g.K.Keeper.left k.stores.keeper c.write.new.self.stores.keeper) (c.in_ok-claim.ensures.core ∙ c.self.view_is)
+    c.write.ensures.crash
+
+pub returns-clause-rows : goal.returns-clause-rows
+returns-clause-rows g c =
+    let run = g.J.Naming.run in
+    subst (λ k. RowsFollow run g.K.Keeper.tells k.stores.course.machine.stored g.K.Keeper.time g.K.Keeper.left k.stores.keeper c.write.new.self.stores.keeper) (c.in_ok-claim.ensures.core ∙ c.self.view_is)
+    c.write.ensures.crash

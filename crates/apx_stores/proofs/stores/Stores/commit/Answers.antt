@@ -5,6 +5,8 @@ use Rattle.apx_history.specs.declared.Event.TheVariants.{Commit}
 use Rattle.apx_course.specs.declared.faults.CoreFault.TheVariants.{Memory, Vault}
 use Rattle.apx_stores.proofs.Wholes.{whole_vault, whole_vault_stop}
 use Rattle.apx_stores.proofs.Stopping.{stored_stays}
+use Rattle.apx_stores.proofs.Crashing.{durable_same, entries_drop, entries_stay, entries_begin}
+use Rattle.apx_stores.specs.Crashes.{NoPut}
 use Rattle.apx_stores.proofs.stores.Stores.commit.Goals as goal
 
 pub drop_below-requires : goal.drop_below-requires
@@ -19,6 +21,7 @@ invariant_of-self g c =
       whole_vault g.J.Naming.run _ _ _ _ _ _ _ _ _ c.self.invariant.1 _ _ _ _
           (ap (λ (m : State). m.stored) c.add.ensures.machine ∙ stored_stays g.J.Naming.run.plan c.self.inside.course.machine c.args.worker (Commit c.args.to) refl)
           c.add.ensures.fault none c.in-Ok.ensures.sound c.in-Ok.ensures.cause.later,
+      durable_same g.J.Naming.run g.K.Keeper.tells _ _ (g.K.Keeper.left c.self.inside.keeper (g.K.Keeper.time c.self.inside.keeper)) (ap (λ (m : State). m.stored) c.add.ensures.machine ∙ stored_stays g.J.Naming.run.plan c.self.inside.course.machine c.args.worker (Commit c.args.to) refl) c.self.invariant.2,
     )
 
 pub invariant_of-self-in-Err-Failed : goal.invariant_of-self-in-Err-Failed
@@ -29,6 +32,7 @@ invariant_of-self-in-Err-Failed g c =
       whole_vault_stop g.J.Naming.run _ _ _ _ _ _ _ _ _ whole Vault _ _ _ _ none (ap (λ (m : State). m.stored) c.stop.ensures.machine) c.stop.ensures.fault
           c.in-Err-Failed.ensures.cause.later
           (Rose-from _ _ _ whole.vault_counts (c.in-Err-Failed.ensures.cause.rose (ap Err c.in-Err-Failed.field-0-is))),
+      durable_same g.J.Naming.run g.K.Keeper.tells _ _ (g.K.Keeper.left c.self.inside.keeper (g.K.Keeper.time c.self.inside.keeper)) (ap (λ (m : State). m.stored) c.stop.ensures.machine) c.self.invariant.2,
     )
 
 pub invariant_of-self-in-Err-Memory : goal.invariant_of-self-in-Err-Memory
@@ -37,4 +41,24 @@ invariant_of-self-in-Err-Memory g c =
       c.self.invariant.0,
       whole_vault_stop g.J.Naming.run _ _ _ _ _ _ _ _ _ c.self.invariant.1 Memory _ _ _ _ none (ap (λ (m : State). m.stored) c.stop-in-Err-Memory.ensures.machine) c.stop-in-Err-Memory.ensures.fault
           c.in-Err-Memory.ensures.cause.later tt,
+      durable_same g.J.Naming.run g.K.Keeper.tells _ _ (g.K.Keeper.left c.self.inside.keeper (g.K.Keeper.time c.self.inside.keeper)) (ap (λ (m : State). m.stored) c.stop-in-Err-Memory.ensures.machine) c.self.invariant.2,
     )
+
+pub returns-in_err-reserve-clause-crash : goal.returns-in_err-reserve-clause-crash
+returns-in_err-reserve-clause-crash g c = λ t.
+    entries_stay g.V.Vault.time g.V.Vault.left g.V.Vault.held NoPut c.args.self.now.vault c.reserve.new.self.vault c.reserve.ensures.vault (c.reserve.ensures.settled t)
+
+pub returns-in-Ok-clause-crash : goal.returns-in-Ok-clause-crash
+returns-in-Ok-clause-crash g c = λ t.
+    entries_begin g.V.Vault.time g.V.Vault.left g.V.Vault.held NoPut c.args.self.now.vault c.self.inside.vault c.drop_below.new.self (ap (λ s. s.vault) c.self.view_is ∙ c.reserve.ensures.vault)
+    (entries_drop g.V.Vault.time g.V.Vault.left g.V.Vault.held c.drop_below.result c.args.to c.self.inside.vault c.drop_below.new.self (c.drop_below.ensures.held t) (c.drop_below.ensures.crash t))
+
+pub returns-in-Err-Failed-clause-crash : goal.returns-in-Err-Failed-clause-crash
+returns-in-Err-Failed-clause-crash g c = λ t.
+    entries_begin g.V.Vault.time g.V.Vault.left g.V.Vault.held NoPut c.args.self.now.vault c.self.inside.vault c.drop_below.new.self (ap (λ s. s.vault) c.self.view_is ∙ c.reserve.ensures.vault)
+    (entries_drop g.V.Vault.time g.V.Vault.left g.V.Vault.held c.drop_below.result c.args.to c.self.inside.vault c.drop_below.new.self (c.drop_below.ensures.held t) (c.drop_below.ensures.crash t))
+
+pub returns-in-Err-Memory-clause-crash : goal.returns-in-Err-Memory-clause-crash
+returns-in-Err-Memory-clause-crash g c = λ t.
+    entries_begin g.V.Vault.time g.V.Vault.left g.V.Vault.held NoPut c.args.self.now.vault c.self.inside.vault c.drop_below.new.self (ap (λ s. s.vault) c.self.view_is ∙ c.reserve.ensures.vault)
+    (entries_drop g.V.Vault.time g.V.Vault.left g.V.Vault.held c.drop_below.result c.args.to c.self.inside.vault c.drop_below.new.self (c.drop_below.ensures.held t) (c.drop_below.ensures.crash t))

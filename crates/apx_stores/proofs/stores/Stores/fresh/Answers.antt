@@ -4,13 +4,14 @@ use Rattle.apx_history.specs.State.{State, running}
 use Rattle.apx_course.proofs.Journals.{no_status, no_fault}
 use Rattle.apx_course.specs.declared.faults.CoreFault.TheVariants.{Memory, Spools}
 use Rattle.apx_stores.proofs.Wholes.{whole_spools, whole_spools_stop}
+use Rattle.apx_stores.proofs.Crashing.{durable_same}
 use Rattle.apx_stores.proofs.stores.Stores.fresh.Goals as goal
 
 pub invariant_of-self : goal.invariant_of-self
 invariant_of-self g c =
     let runs : running c.self.inside.course.machine ≡ true = ap (λ s. running s.course.machine) c.self.view_is ∙ c.requires in
     let none : c.self.inside.course.fault ≡ None = no_fault _ (sym c.facts.ensures.same ∙ no_status c.self.inside.course.machine runs) in
-    (c.self.invariant.0, whole_spools g.J.Naming.run _ _ _ _ _ _ _ _ _ c.self.invariant.1 _ none c.in-Ok.ensures.cause.later)
+    (c.self.invariant.0, whole_spools g.J.Naming.run _ _ _ _ _ _ _ _ _ c.self.invariant.1 _ none c.in-Ok.ensures.cause.later, c.self.invariant.2)
 
 pub invariant_of-self-in-Err-Failed : goal.invariant_of-self-in-Err-Failed
 invariant_of-self-in-Err-Failed g c =
@@ -21,6 +22,7 @@ invariant_of-self-in-Err-Failed g c =
       whole_spools_stop g.J.Naming.run _ _ _ _ _ _ _ _ _ whole Spools _ _ _ none (ap (λ (m : State). m.stored) c.stop.ensures.machine) c.stop.ensures.fault
           c.in-Err-Failed.ensures.cause.later
           (Rose-from _ _ _ whole.spools_count (c.in-Err-Failed.ensures.cause.rose (ap Err c.in-Err-Failed.field-0-is))),
+      durable_same g.J.Naming.run g.K.Keeper.tells _ _ (g.K.Keeper.left c.self.inside.keeper (g.K.Keeper.time c.self.inside.keeper)) (ap (λ (m : State). m.stored) c.stop.ensures.machine) c.self.invariant.2,
     )
 
 pub invariant_of-self-in-Err-Memory : goal.invariant_of-self-in-Err-Memory
@@ -30,4 +32,5 @@ invariant_of-self-in-Err-Memory g c =
       c.self.invariant.0,
       whole_spools_stop g.J.Naming.run _ _ _ _ _ _ _ _ _ c.self.invariant.1 Memory _ _ _ none (ap (λ (m : State). m.stored) c.stop-in-Err-Memory.ensures.machine) c.stop-in-Err-Memory.ensures.fault
           c.in-Err-Memory.ensures.cause.later tt,
+      durable_same g.J.Naming.run g.K.Keeper.tells _ _ (g.K.Keeper.left c.self.inside.keeper (g.K.Keeper.time c.self.inside.keeper)) (ap (λ (m : State). m.stored) c.stop-in-Err-Memory.ensures.machine) c.self.invariant.2,
     )
