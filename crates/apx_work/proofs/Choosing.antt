@@ -1,9 +1,9 @@
 -- What a worker is to do, from the first event that it may do.
-use Rattle.std.proofs.Common.{◌≡◌, ℕ, ◌⊎◌, inl, inr, Bool, true, false, ◌&&◌, List, Option, None, Some, refl, sym, ap, subst, ◌∙◌}
+use Rattle.std.proofs.Common.{◌≡◌, ℕ, ◌⊎◌, inl, inr, true, false, List, Option, None, Some, sym, ap, subst, ◌∙◌}
 use Rattle.apx_history.specs.declared.Entry.{Entry}
 use Rattle.apx_history.specs.declared.Event.{Event}
-use Rattle.apx_history.specs.declared.Event.TheVariants.{Start, Write, Finish, Save, Advance, Commit, Purge, Kill, Repartition, End, Fault}
-use Rattle.apx_history.specs.Plan.{Plan, line, kills}
+use Rattle.apx_history.specs.declared.Event.TheVariants.{Write, Finish, Kill, Fault}
+use Rattle.apx_history.specs.Plan.{Plan}
 use Rattle.apx_history.specs.State.{State, oper}
 use Rattle.apx_history.specs.Enabled.{can}
 use Rattle.apx_history.specs.Journals.{owed, bears}
@@ -12,11 +12,12 @@ use Rattle.apx_history.proofs.Tests.{both}
 use Rattle.apx_course.specs.Faults.{is_fault}
 use Rattle.apx_machine.specs.Picked.{ended_by, is_claimed, may_do}
 use Rattle.apx_work.specs.declared.hands.OpenWindow.{OpenWindow}
+use Rattle.apx_work.specs.declared.hands.Task.TheVariants.{Strike}
 use Rattle.apx_work.specs.declared.hands.Due.TheVariants.{Store, Close, Drop}
 use Rattle.apx_work.specs.Own.{own, state_of, Ends, ends_window}
 use Rattle.apx_work.specs.Claims.{Claims}
-use Rattle.apx_work.specs.Hands.{IsDue}
-use Rattle.apx_work.proofs.Ending.{claim-ends, free-ends-none}
+use Rattle.apx_work.specs.Hands.{IsTask, IsDue}
+use Rattle.apx_work.proofs.Ending.{claim-ends, free-ends-none, kills_nobody}
 use Rattle.apx_work.proofs.Holding.{free_facts, claim_facts}
 
 -- who may do an event bears what it ends
@@ -33,6 +34,10 @@ module _ (plan : Plan) (s c u : ℕ) (es : List Entry) (m : State) (is : IsHisto
   -- without a claim it is no Write and no Finish
   pub ends_none : Claims plan u (own u es) None → (e : Event) → can plan m e ≡ true → may_do plan m u None e ≡ true → ends_window e ≡ false
   ends_none none e next may = free-ends-none plan m u (free_facts plan s c u es m is now none) e next (bears_of plan m u None e may)
+
+  -- a kill that it may do then is of a partition that nobody has open
+  pub task_strike : Claims plan u (own u es) None → (l : ℕ) → can plan m (Kill l) ≡ true → may_do plan m u None (Kill l) ≡ true → IsTask plan m u (Strike l)
+  task_strike none l next may = (next, kills_nobody plan m u (free_facts plan s c u es m is now none) l (bears_of plan m u None (Kill l) may))
 
   module _ (x : OpenWindow) (one : Claims plan u (own u es) (Some x)) where
     -- with one it ends what is claimed

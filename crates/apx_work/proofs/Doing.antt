@@ -1,5 +1,5 @@
 -- What a worker leaves a turn with.
-use Rattle.std.proofs.Common.{◌≡◌, ℕ, inl, inr, true, List, None, Some, sym, subst}
+use Rattle.std.proofs.Common.{◌≡◌, ℕ, inr, true, List, None, Some, sym, subst}
 use Rattle.apx_history.specs.declared.Entry.{Entry}
 use Rattle.apx_history.specs.declared.Event.{Event}
 use Rattle.apx_history.specs.declared.Event.TheVariants.{Write, Finish, Kill, Fault}
@@ -55,8 +55,10 @@ module _ (plan : Plan) (u : ℕ) (old new : List Entry) (x : OpenWindow) (one : 
       let a = own_adds (Finish x.op x.part x.window) adds in
       (inr (Finish x.op x.part x.window, a), finish_push plan u old new x one a)
 
-  pub dropped : (l : ℕ) → kills x.op x.part (line plan l) ≡ true → Adds u (Kill l) old new → Changes u old new × Claims plan u (own u new) None
-  dropped l killed adds = (inr (Kill l, adds), kill_push plan u old new x l one killed adds)
+  pub dropped : (l : ℕ) → kills x.op x.part (line plan l) ≡ true → Adds x.worker (Kill l) old new → Changes u old new × Claims plan u (own u new) None
+  dropped l killed adds =
+      let a = own_adds (Kill l) adds in
+      (inr (Kill l, a), kill_push plan u old new x l one killed a)
 
   pub stopped_claim : Stops x.worker old new → Changes u old new × (IsOver new × AreOneByOne plan u None (own u new))
   stopped_claim stops = let a = own_stops stops in (stops_change u old new a, stops_leaves plan u old new one.0 a)

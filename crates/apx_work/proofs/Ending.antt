@@ -1,20 +1,19 @@
 -- What a worker with a claim may do, and one without.
-use Rattle.std.proofs.Common.{◌≡◌, ℕ, Bool, true, false, cond, ◌&&◌, ◌==◌, Option, None, Some, refl, sym, ap, subst, ◌∙◌}
+use Rattle.std.proofs.Common.{◌≡◌, ℕ, Bool, true, false, cond, ◌&&◌, ◌==◌, Option, None, Some, refl, sym, ap, ◌∙◌}
 use Rattle.apx_history.specs.declared.Event.{Event}
 use Rattle.apx_history.specs.declared.Event.TheVariants.{Start, Write, Finish, Save, Advance, Commit, Purge, Kill, Repartition, End, Fault}
 use Rattle.apx_history.specs.declared.Act.{Act}
 use Rattle.apx_history.specs.declared.Act.TheVariants.{Fails, Splits}
-use Rattle.apx_history.specs.Plan.{Plan, line, fails_part, kills}
+use Rattle.apx_history.specs.Plan.{Plan, line, fails_part}
 use Rattle.apx_history.specs.State.{State, slot, open_window, open_worker}
 use Rattle.apx_history.specs.Enabled.{can}
 use Rattle.apx_history.specs.Conditions.{CanWrite, CanFinish}
-use Rattle.apx_history.specs.Journals.{owed, bears}
-use Rattle.apx_history.specs.Laws.{IsOpen}
+use Rattle.apx_history.specs.Journals.{owed_act, owed, bears}
 use Rattle.apx_history.proofs.Tests.{both}
 use Rattle.apx_history.proofs.Conditions.{all_true, equal_at, equal_by}
 use Rattle.apx_history.proofs.Legal.{can_facts}
 use Rattle.apx_machine.specs.Picked.{killed, ended_by, is_claimed, may_do}
-use Rattle.apx_work.specs.Own.{open_for, Ends, ClaimEnds, ends_window, FreeEndsNone}
+use Rattle.apx_work.specs.Own.{open_for, ClaimEnds, FreeEndsNone}
 
 -- a partition has one window open
 one_window : (w v : ℕ) (x : Option ℕ) → x ≡ Some w → x ≡ Some v → v ≡ w
@@ -76,3 +75,19 @@ free-ends-none plan m u free (Kill l) can bear = refl
 free-ends-none plan m u free (Repartition l) can bear = refl
 free-ends-none plan m u free End can bear = refl
 free-ends-none plan m u free (Fault s) can bear = refl
+
+-- what a worker doesn't have open is open for nobody whose kill it may do
+unowned : (u : ℕ) (x : Option (ℕ × ℕ)) → open_for u x ≡ None → bears (open_worker x) u ≡ true → open_worker x ≡ None
+unowned u None none bear = refl
+unowned u (Some x) none bear =
+    let e : Some x.0 ≡ None = sym (ap (λ (b : Bool). cond {A = Option ℕ} b (Some x.0) None) bear) ∙ none in
+    absurd (cc e)
+
+-- so a kill that a worker with nothing open may do is of a partition that nobody has open
+pub kills_nobody : (plan : Plan) (m : State) (u : ℕ) → ((o i : ℕ) → open_for u (slot m o i).opened ≡ None) → (l : ℕ) → bears (owed plan m (Kill l)) u ≡ true →
+    owed plan m (Kill l) ≡ None
+kills_nobody plan m u free l bear = by (line plan l).act bear
+  where
+    by : (a : Act) → bears (owed_act m (line plan l).op a) u ≡ true → owed_act m (line plan l).op a ≡ None
+    by (Fails point part) h = unowned u (slot m (line plan l).op part).opened (free (line plan l).op part) h
+    by (Splits count) h = refl

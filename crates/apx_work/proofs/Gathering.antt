@@ -1,5 +1,5 @@
 -- The seats of all workers: how they are dealt, and how they are joined.
-use Rattle.std.proofs.Common.{◌≡◌, ℕ, zero, suc, ◌+◌, ◌<◌, ◌≤◌, ◌⊎◌, inl, inr, ⊎_elim, Bool, true, false, cond, nat_lt, List, [], ◌∷◌, ◌++◌, length, refl, sym, ap, subst, ◌∙◌, arith, append-nil}
+use Rattle.std.proofs.Common.{◌≡◌, ℕ, zero, suc, ◌+◌, ◌<◌, ◌⊎◌, inl, inr, Bool, true, false, cond, nat_lt, List, [], ◌∷◌, ◌++◌, length, refl, sym, ap, subst, ◌∙◌, arith, append-nil}
 use Rattle.std.specs.Prelude.{None}
 use Rattle.atomic_table.specs.Seated.{TableId}
 use Rattle.apx_history.specs.declared.Entry.{Entry}
@@ -8,10 +8,10 @@ use Rattle.apx_history.specs.Laws.{IsHistory}
 use Rattle.apx_lock.specs.declared.rule.Terms.{Terms}
 use Rattle.apx_lock.specs.declared.view.View.{View}
 use Rattle.apx_lock.specs.declared.view.Part.{Part}
-use Rattle.apx_lock.specs.Logs.{Every, StartsWith, longer}
+use Rattle.apx_lock.specs.Logs.{Every}
 use Rattle.apx_lock.specs.Views.{IsPart, HasNumber, first_view, after_split, dealt_view, after_join}
 use Rattle.apx_lock.specs.Seats.{Seated, IsSeatOf}
-use Rattle.apx_lock.specs.Steps.{IsSameSeat, Ends}
+use Rattle.apx_lock.specs.Steps.{Ends}
 use Rattle.apx_lock.proofs.Lists.{Every-weaker, Every-append}
 use Rattle.apx_lock.proofs.Entries.{part_of_append, has_either}
 use Rattle.apx_work.specs.Turns.{IsOver}

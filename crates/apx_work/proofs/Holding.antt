@@ -9,11 +9,10 @@ use Rattle.apx_history.specs.Laws.{IsHistory, IsOpen}
 use Rattle.apx_history.proofs.Tests.{both, test}
 use Rattle.apx_history.proofs.Conditions.{all_true, equal_at, equal_by}
 use Rattle.apx_course.specs.Course.{entry}
-use Rattle.apx_course.specs.Faults.{is_fault}
 use Rattle.apx_lock.proofs.Entries.{one_own}
 use Rattle.apx_work.specs.declared.hands.OpenWindow.{OpenWindow}
-use Rattle.apx_work.specs.Own.{own, state_of, open_for, open_after, open_behind, open_in, Ends, ends_window}
-use Rattle.apx_work.specs.Claims.{open_window, unless_killed, claim_after, claim_behind, IsAllowed, AreOneByOne, Claims, claimed_at, ClaimIsOpen}
+use Rattle.apx_work.specs.Own.{own, state_of, open_for, open_after, open_behind, ends_window}
+use Rattle.apx_work.specs.Claims.{open_window, IsOpenFor, unless_killed, claim_after, claim_behind, IsAllowed, AreOneByOne, Claims, claimed_at, ClaimIsOpen}
 use Rattle.apx_work.specs.Turns.{goes_alone, Adds, Stops}
 use Rattle.apx_work.proofs.Opening.{own-tells, open-stays}
 
@@ -225,3 +224,7 @@ module _ (plan : Plan) (s c u : ℕ) (es : List Entry) (m : State) (is : IsHisto
     where
       here : cond (x.op == x.op && x.part == x.part) (Some x.window) None ≡ Some x.window
       here = ap (λ (b : Bool). cond b (Some x.window) None) (all_true (equal_by x.op x.op refl) (equal_by x.part x.part refl))
+
+  -- what it claims is open for it
+  pub claim_open : (x : OpenWindow) → Claims plan u (own u es) (Some x) → IsOpenFor m x
+  claim_open x one = (claim_facts x one).opened ∙ ap (λ (k : ℕ). Some (x.window, k)) (sym (claims_by plan u (own u es) x one))

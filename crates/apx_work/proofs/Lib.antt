@@ -1,7 +1,7 @@
 mod Opening
 mod Ending
 mod Holding
-mod Stopping
+pub mod Stopping
 mod Choosing
 mod Doing
 mod Seating

@@ -12,15 +12,14 @@ use Rattle.apx_history.specs.Plan.{Plan, Operator, no_operator, operator, line, 
 use Rattle.apx_history.specs.State.{Slot, Oper, State, fresh, no_oper, oper, parts, slot, IsPart, open_worker, put, map_slots}
 use Rattle.apx_history.specs.Enabled.{in_tree}
 use Rattle.apx_history.specs.Effects.{started, finished, saves, advanced, purged, trimmed, back, back_in, meet, split, next}
-use Rattle.apx_history.specs.Conditions.{Enabled, CanStart, CanKill, CanRepartition}
+use Rattle.apx_history.specs.Conditions.{Enabled, CanKill, CanRepartition}
 use Rattle.apx_history.specs.Journals.{beginning, owed_act, owed, bears, is_legal, after}
-use Rattle.apx_history.specs.Laws.{IsHistory, IsOpen}
 use Rattle.apx_history.proofs.Tests.{both, test, alike}
 use Rattle.apx_history.proofs.Slots.{slot_here, slot_other, slot_map, map_ops, map_parts}
 use Rattle.apx_history.proofs.Conditions.{all_true, equal_at, equal_by}
 use Rattle.apx_history.proofs.Renewed.{fresh_rests}
 use Rattle.apx_history.proofs.Legal.{can_facts, fits_parts}
-use Rattle.apx_work.specs.Own.{own, state_of, open_for, open_after, open_behind, open_in, OwnTells, OpenStays}
+use Rattle.apx_work.specs.Own.{own, state_of, open_for, open_after, open_behind, OwnTells, OpenStays}
 
 -- ---- tests
 

@@ -1,5 +1,5 @@
 -- What a turn leaves of a worker's seat.
-use Rattle.std.proofs.Common.{◌≡◌, ℕ, ◌⊎◌, inl, inr, Bool, true, false, List, [], ◌∷◌, ◌++◌, refl, sym, ap, subst, ◌∙◌, arith, append_assoc}
+use Rattle.std.proofs.Common.{◌≡◌, ℕ, inl, inr, true, false, List, [], ◌∷◌, ◌++◌, refl, sym, ap, subst, ◌∙◌, arith, append_assoc}
 use Rattle.apx_history.specs.declared.Entry.{Entry}
 use Rattle.apx_course.specs.Course.{entry}
 use Rattle.apx_lock.specs.declared.view.View.{View}

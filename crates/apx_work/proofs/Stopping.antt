@@ -1,5 +1,5 @@
 -- When a run is over.
-use Rattle.std.proofs.Common.{◌≡◌, ℕ, Bool, true, false, cond, inl, inr, ◌⊎◌, List, [], ◌∷◌, ◌++◌, Option, None, Some, is_none, refl, sym, ap, subst, ◌∙◌, append_assoc}
+use Rattle.std.proofs.Common.{◌≡◌, ℕ, Bool, true, false, cond, inl, inr, ◌⊎◌, List, [], ◌∷◌, ◌++◌, Option, Some, is_none, refl, sym, ap, ◌∙◌}
 use Rattle.apx_history.specs.declared.Entry.{Entry}
 use Rattle.apx_history.specs.declared.Event.{Event}
 use Rattle.apx_history.specs.declared.Event.TheVariants.{Start, Write, Finish, Save, Advance, Commit, Purge, Kill, Repartition, End, Fault}
@@ -93,7 +93,8 @@ begins plan s c es none = ap (λ (l : List Entry). running (state_of plan s c l)
 pub stops_over : (u : ℕ) (old new : List Entry) → Stops u old new → IsOver new
 stops_over u old new stops = (old, entry u (Fault stops.0), stops.1, refl)
 
-over_stands : (plan : Plan) (m : State) (es : List Entry) → IsOver es → running (after plan m es) ≡ false
+-- where it is over it goes on no more
+pub over_stands : (plan : Plan) (m : State) (es : List Entry) → IsOver es → running (after plan m es) ≡ false
 over_stands plan m es over =
     ap (λ (l : List Entry). running (after plan m l)) over.2 ∙ ap running (after-append plan m over.0 (over.1 ∷ []))
     ∙ ends plan (after plan m over.0) over.1.worker over.1.event over.3

@@ -1,9 +1,10 @@
 -- A worker that has one claim after the other, by its own entries.
-use Rattle.std.specs.Prelude.{◌≡◌, ℕ, ◌⊎◌, Bool, true, false, cond, ◌&&◌, ◌==◌, List, [], ◌∷◌, Option, None, Some}
+use Rattle.std.specs.Prelude.{◌≡◌, ℕ, ◌⊎◌, true, false, cond, ◌&&◌, ◌==◌, List, [], ◌∷◌, Option, None, Some}
 use Rattle.apx_history.specs.declared.Entry.{Entry}
 use Rattle.apx_history.specs.declared.Event.{Event}
-use Rattle.apx_history.specs.declared.Event.TheVariants.{Start, Write, Finish, Save, Advance, Commit, Purge, Kill, Repartition, End, Fault}
+use Rattle.apx_history.specs.declared.Event.TheVariants.{Start, Finish, Kill}
 use Rattle.apx_history.specs.Plan.{Plan, line, kills}
+use Rattle.apx_history.specs.State.{State, slot}
 use Rattle.apx_course.specs.Faults.{is_fault}
 use Rattle.apx_work.specs.declared.hands.OpenWindow.{OpenWindow}
 use Rattle.apx_work.specs.Own.{Ends, ends_window, open_in}
@@ -11,6 +12,10 @@ use Rattle.apx_work.specs.Own.{Ends, ends_window, open_in}
 -- a window of a partition that a worker has open
 abbrev pub open_window : ℕ → ℕ → ℕ → ℕ → OpenWindow
 open_window o i w worker = record { op = o; part = i; window = w; worker = worker }
+
+-- the window is open for its worker
+abbrev pub IsOpenFor : State → OpenWindow → Type 0
+IsOpenFor m x = (slot m x.op x.part).opened ≡ Some (x.window, x.worker)
 
 -- the claim that is left where a line of the script kills
 abbrev pub unless_killed : Plan → ℕ → Option OpenWindow → Option OpenWindow

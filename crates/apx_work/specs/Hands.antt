@@ -1,5 +1,5 @@
 -- What is so of what a worker has in hand.
-use Rattle.std.specs.Prelude.{◌≡◌, ℕ, true, List, Option, None, Some}
+use Rattle.std.specs.Prelude.{◌≡◌, ℕ, true, List, None, Some}
 use Rattle.apx_history.specs.declared.Entry.{Entry}
 use Rattle.apx_history.specs.declared.Event.TheVariants.{Start, Write, Finish, Kill}
 use Rattle.apx_history.specs.Plan.{Plan, line, kills}
@@ -45,7 +45,7 @@ IsWorked claimed made may x (Refused why) = may why
 abbrev pub IsTask : Plan → State → ℕ → Task → Type 0
 IsTask plan m worker Rest = Unit {0}
 IsTask plan m worker (Begin o i w) = can plan m (Start o i w) ≡ true
-IsTask plan m worker (Strike l) = (can plan m (Kill l) ≡ true) × (bears (owed plan m (Kill l)) worker ≡ true)
+IsTask plan m worker (Strike l) = (can plan m (Kill l) ≡ true) × (owed plan m (Kill l) ≡ None)
 IsTask plan m worker (Alone e) = (can plan m e ≡ true) × (goes_alone e ≡ true)
 
 -- what a worker is to do with the window that it has open

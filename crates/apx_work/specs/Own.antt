@@ -2,7 +2,7 @@
 use Rattle.std.specs.Prelude.{◌≡◌, ℕ, Bool, true, false, cond, ◌&&◌, ◌==◌, List, [], ◌∷◌, Option, None, Some}
 use Rattle.apx_history.specs.declared.Entry.{Entry}
 use Rattle.apx_history.specs.declared.Event.{Event}
-use Rattle.apx_history.specs.declared.Event.TheVariants.{Start, Write, Finish, Save, Advance, Commit, Purge, Kill, Repartition, End, Fault}
+use Rattle.apx_history.specs.declared.Event.TheVariants.{Start, Write, Finish, Kill}
 use Rattle.apx_history.specs.Plan.{Plan, line, kills}
 use Rattle.apx_history.specs.State.{State, oper, slot}
 use Rattle.apx_history.specs.Enabled.{can}

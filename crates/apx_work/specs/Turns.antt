@@ -2,7 +2,7 @@
 use Rattle.std.specs.Prelude.{◌≡◌, ℕ, ◌⊎◌, Bool, true, false, List, [], ◌∷◌, ◌++◌}
 use Rattle.apx_history.specs.declared.Entry.{Entry}
 use Rattle.apx_history.specs.declared.Event.{Event}
-use Rattle.apx_history.specs.declared.Event.TheVariants.{Start, Write, Finish, Save, Advance, Commit, Purge, Kill, Repartition, End, Fault}
+use Rattle.apx_history.specs.declared.Event.TheVariants.{Save, Advance, Commit, Purge, Repartition, End, Fault}
 use Rattle.apx_course.specs.Course.{entry}
 
 -- the event has to do with no claim, kills nothing, and is no fault

@@ -20,7 +20,7 @@ pub trait Shop {
     ghost use Rattle.apx_machine.specs.Picked.{may_do, first_for};
     ghost use Rattle.apx_work.specs.declared.hands.OpenWindow.{OpenWindow};
     ghost use Rattle.apx_work.specs.Own.{state_of};
-    ghost use Rattle.apx_work.specs.Claims.{open_window};
+    ghost use Rattle.apx_work.specs.Claims.{open_window, IsOpenFor};
     ghost use Rattle.apx_work.specs.Turns.{goes_alone, Adds, Stops};
 
     /// What the work of every claim needs.
@@ -115,6 +115,7 @@ pub trait Shop {
         requires can { can plan (machine self.old) (Write (claimed claim.now).window) ≡ true }
         requires bears { bears (owed plan (machine self.old) (Write (claimed claim.now).window))
             (claimed claim.now).worker ≡ true }
+        requires opened { IsOpenFor (machine self.old) (claimed claim.now) }
         requires sink { ((claimed claim.now).op ≡ plan.sink) × ((claimed claim.now).part ≡ 0) }
         requires made { made claim.now done.now }
         ensures did { OnOk result (Adds (claimed claim.now).worker (Write (claimed claim.now).window)
@@ -127,25 +128,27 @@ pub trait Shop {
             (Finish (claimed claim).op (claimed claim).part (claimed claim).window) ≡ true }
         requires bears { bears (owed plan (machine self.old)
             (Finish (claimed claim).op (claimed claim).part (claimed claim).window)) (claimed claim).worker ≡ true }
+        requires opened { IsOpenFor (machine self.old) (claimed claim) }
         requires made { made claim done }
         ensures did { OnOk result (Adds (claimed claim).worker
             (Finish (claimed claim).op (claimed claim).part (claimed claim).window) (journal self.old) (journal self.new)) }
         ensures stops { OnErr result (Stops (claimed claim).worker (journal self.old) (journal self.new)) };
 
-    /// A line of the script kills a partition that no worker claims, or the run stops.
+    /// A line of the script kills a partition that nobody has open, or the run stops.
     fn kill(&mut self, worker: u8, line: u32) -> Result<(), Stopped>
         requires can { can plan (machine self.old) (Kill line) ≡ true }
-        requires bears { bears (owed plan (machine self.old) (Kill line)) worker ≡ true }
+        requires nobody { owed plan (machine self.old) (Kill line) ≡ None }
         ensures did { OnOk result (Adds worker (Kill line) (journal self.old) (journal self.new)) }
         ensures stops { OnErr result (Stops worker (journal self.old) (journal self.new)) };
 
     /// A worker gives up its claim, since a line of the script kills the partition, or the run stops.
-    fn give_up(&mut self, worker: u8, line: u32, claim: Self::Claim) -> Result<(), Stopped>
+    fn give_up(&mut self, line: u32, claim: Self::Claim) -> Result<(), Stopped>
         requires can { can plan (machine self.old) (Kill line) ≡ true }
-        requires bears { bears (owed plan (machine self.old) (Kill line)) worker ≡ true }
+        requires bears { bears (owed plan (machine self.old) (Kill line)) (claimed claim).worker ≡ true }
+        requires opened { IsOpenFor (machine self.old) (claimed claim) }
         requires claim { kills (claimed claim).op (claimed claim).part (line_of plan line) ≡ true }
-        ensures did { OnOk result (Adds worker (Kill line) (journal self.old) (journal self.new)) }
-        ensures stops { OnErr result (Stops worker (journal self.old) (journal self.new)) };
+        ensures did { OnOk result (Adds (claimed claim).worker (Kill line) (journal self.old) (journal self.new)) }
+        ensures stops { OnErr result (Stops (claimed claim).worker (journal self.old) (journal self.new)) };
 
     /// A worker does an event that has to do with no claim and kills nothing, or the run stops.
     fn act(&mut self, worker: u8, event: Event) -> Result<(), Stopped>

@@ -136,8 +136,8 @@ impl<J: Naming> Shop for Bare<J> {
         self.add(worker, Event::Kill { line })
     }
 
-    fn give_up(&mut self, worker: u8, line: u32, _claim: OpenWindow) -> Result<(), Stopped> {
-        self.add(worker, Event::Kill { line })
+    fn give_up(&mut self, line: u32, claim: OpenWindow) -> Result<(), Stopped> {
+        self.add(claim.worker, Event::Kill { line })
     }
 
     fn act(&mut self, worker: u8, event: Event) -> Result<(), Stopped> {

@@ -1,7 +1,7 @@
 //! What a worker does in a turn: the first event to choose that it may do, or nothing.
 ghost use Rattle.std.specs.Prelude.{Some, None};
 ghost use Rattle.apx_work.specs.Own.{own};
-ghost use Rattle.apx_work.specs.Claims.{Claims};
+ghost use Rattle.apx_work.specs.Claims.{Claims, IsOpenFor};
 ghost use Rattle.apx_work.specs.Turns.{Changes};
 ghost use Rattle.apx_work.specs.Hands.{IsTask, IsDue, Holds, LeavesWith};
 
@@ -31,6 +31,15 @@ fn task<S: Shop>(shop: &S, worker: u8) -> Task
             _ => Task::Alone { event },
         },
     }
+}
+
+/// What is known of a worker with a claim: the window is open for it.
+fn known<S: Shop>(shop: &S, worker: u8, claim: &S::Claim)
+    requires { Claims S.plan worker (own worker (S.journal shop.now)) (Some (S.claimed claim.now)) }
+    ensures { IsOpenFor (S.machine shop.now) (S.claimed claim.now) }
+{
+    shop.facts();
+    let _ = S::open_window(claim);
 }
 
 /// What a worker is to do with a claim.
@@ -81,6 +90,7 @@ fn bring<S: Shop>(shop: &mut S, worker: u8, claim: S::Claim, done: S::Done) -> N
     ensures change { Changes worker (S.journal shop.old) (S.journal shop.new) }
     ensures next { LeavesWith S.claimed S.is_whole S.made S.may_stop S.plan worker (S.journal shop.new) result }
 {
+    known(shop, worker, &claim);
     match due(shop, worker, &claim) {
         Due::Nothing => Next::Wait(Hand::Ready(claim, done)),
         Due::Store => match shop.write(&claim, &done) {
@@ -91,7 +101,7 @@ fn bring<S: Shop>(shop: &mut S, worker: u8, claim: S::Claim, done: S::Done) -> N
             Ok(()) => Next::Go(Hand::Free),
             Err(_) => Next::Over,
         },
-        Due::Drop { line } => match shop.give_up(worker, line, claim) {
+        Due::Drop { line } => match shop.give_up(line, claim) {
             Ok(()) => Next::Go(Hand::Free),
             Err(_) => Next::Over,
         },

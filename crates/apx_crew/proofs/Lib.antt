@@ -1,0 +1,3 @@
+mod Claims
+mod Ended
+mod Sending
