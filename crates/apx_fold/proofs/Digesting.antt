@@ -328,10 +328,10 @@ values-of-pairs q (p ∷ ps) strict = values-front q (pair_tuple p) (map pair_tu
 
 -- ---- the step
 
-not-top : (kind : Kind) → digests kind ≡ true → (k : ℕ) → kind ≡ Top k → ⊥
+pub not-top : (kind : Kind) → digests kind ≡ true → (k : ℕ) → kind ≡ Top k → ⊥
 not-top kind d k is = let no : digests (Top k) ≡ true = sym (ap digests is) ∙ d in cc
 
-sums-digest : (kind : Kind) → digests kind ≡ true → digests (kind_of_digests kind) ≡ true
+pub sums-digest : (kind : Kind) → digests kind ≡ true → digests (kind_of_digests kind) ≡ true
 unfolding kind_of_digests
 sums-digest (Keep min max) d = cc
 sums-digest (Scale factor) d = cc

@@ -4,6 +4,7 @@ pub mod Bests
 pub mod Cuts
 pub mod Digesting
 pub mod Ends
+pub mod Puts
 pub mod Splitting
 pub mod Sums
 pub mod Tellings

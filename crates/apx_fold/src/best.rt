@@ -79,6 +79,10 @@ impl Folding for Best {
         let rows = Bag::of(self.first)?;
         Ok((State::new(self.alloc), rows))
     }
+
+    fn end_unsorted(self, _window: u32, _state: State) -> Result<(State, Vec<Tuple>), Short> {
+        Ok((State::new(self.alloc), self.first))
+    }
 }
 
 /// How tuples rank: by value from the greatest down, and then by key.

@@ -6,11 +6,11 @@ ghost use Rattle.apx_tuple.specs.State.{IsState};
 ghost use Rattle.apx_tuple.specs.Tuple.{tuple_key};
 ghost use Rattle.apx_rules.specs.Parts.{cut_bag};
 ghost use Rattle.apx_step.specs.Walk.{pair_tuple};
-ghost use Rattle.apx_fold.specs.Digests.{digests, digest_of_one, digest_of_two, digest_with, kind_of_digests, AreDigests};
+ghost use Rattle.apx_fold.specs.Digests.{digests, digest_of_one, digest_of_two, digest_with, AreDigests};
 
 use crate::folding::Folding;
+use crate::putting::{closes, put_numbers};
 use crate::share::Share;
-use apx_step::step_in_place;
 use apx_tuple::{Bag, Kind, Short, State, Tuple};
 use std::alloc::{AllocError, Global};
 
@@ -74,10 +74,16 @@ impl Folding for Digest {
     }
 
     fn end_by_value(self, window: u32, state: State) -> Result<(State, Bag), Short> {
-        let numbers = bag_of(self.alloc, &self.numbers)?;
-        let none = Bag::new(self.alloc);
-        let kind = kind_of_digests(&self.kind);
-        step_in_place(self.alloc, &kind, window, state, &numbers, &none)
+        let (kept, rows) = self.end_unsorted(window, state)?;
+        Ok((kept, Bag::of(rows)?))
+    }
+
+    fn end_unsorted(self, window: u32, state: State) -> Result<(State, Vec<Tuple>), Short> {
+        let (kept, rows) = put_numbers(self.alloc, &self.kind, &self.numbers, state)?;
+        if closes(&self.kind, window) {
+            return Ok((State::new(self.alloc), tuples_of(self.alloc, &kept)?));
+        }
+        Ok((kept, rows))
     }
 }
 
@@ -162,29 +168,6 @@ fn digest_of_two(kind: &Kind, first: i64, second: i64) -> i64
         Kind::Peak => first.max(second),
         Kind::First => first.min(second),
         _ => first.wrapping_add(second),
-    }
-}
-
-/// The kind that makes of the numbers what the kind makes of the values.
-#[tactic(auto, unfolding(crate::specs::Digests::kind_of_digests))]
-fn kind_of_digests(kind: &Kind) -> Kind
-    ensures { result ≡ kind_of_digests kind.now }
-{
-    match kind {
-        Kind::Count => Kind::Sum,
-        _ => *kind,
-    }
-}
-
-/// The numbers as a bag.
-fn bag_of(alloc: Global, numbers: &State) -> Result<Bag, AllocError>
-    ensures bag { IfOk result (λ bag. bag ≡ map pair_tuple numbers.now) }
-    ensures state { IsState numbers.now }
-{
-    match Bag::from_ascending(tuples_of(alloc, numbers)?) {
-        Ok(bag) => Ok(bag),
-        Err(Short::Memory) => Err(AllocError),
-        Err(Short::Large) => unreachable!(),
     }
 }
 

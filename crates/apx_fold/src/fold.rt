@@ -98,4 +98,13 @@ impl Folding for Fold {
             Fold::Best(fold) => fold.end_by_value(window, state),
         }
     }
+
+    fn end_unsorted(self, window: u32, state: State) -> Result<(State, Vec<Tuple>), Short> {
+        match self {
+            Fold::Gathered(fold) => fold.end_unsorted(window, state),
+            Fold::Told(fold) => fold.end_unsorted(window, state),
+            Fold::Digest(fold) => fold.end_unsorted(window, state),
+            Fold::Best(fold) => fold.end_unsorted(window, state),
+        }
+    }
 }

@@ -63,4 +63,12 @@ pub trait Folding {
             × (r.1 ≡ (step_part (part self).n (part self).i (part self).kind window state (bag_of lefts) (bag_of rights)).rows)) }
         ensures large { result ≡ Err Short.Large → (lefts rights : List Tuple) → stands self lefts rights →
             IsTooLarge (stepped (part self) window state lefts rights) lefts rights };
+
+    /// The same, with the rows in any order: they are those of the bag, and nothing is sorted for it.
+    fn end_unsorted(self, window: u32, state: State) -> Result<(State, Vec<Tuple>), Short>
+        ensures ok { (lefts rights : List Tuple) → stands self lefts rights → IfOk result (λ r.
+            (r.0 ≡ (stepped (part self) window state lefts rights).state)
+            × (bag_of r.1.items ≡ (stepped (part self) window state lefts rights).rows)) }
+        ensures large { result ≡ Err Short.Large → (lefts rights : List Tuple) → stands self lefts rights →
+            IsTooLarge (stepped (part self) window state lefts rights) lefts rights };
 }

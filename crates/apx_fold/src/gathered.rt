@@ -75,4 +75,9 @@ impl Folding for Gathered {
         let right = Bag::of(self.rights)?;
         step_by_value(self.alloc, &self.kind, window, state, left, right)
     }
+
+    fn end_unsorted(self, window: u32, state: State) -> Result<(State, Vec<Tuple>), Short> {
+        let (kept, rows) = self.end_by_value(window, state)?;
+        Ok((kept, rows.into_tuples()))
+    }
 }

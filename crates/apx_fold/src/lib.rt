@@ -17,6 +17,7 @@ mod digest;
 mod fold;
 mod folding;
 mod gathered;
+mod putting;
 mod share;
 #[cfg(test)]
 mod tests;

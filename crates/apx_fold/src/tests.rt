@@ -1,7 +1,7 @@
 // What folds give of tuples that come in pieces; the values are worked by hand from the kinds' rules.
 //
 // The tables write a tuple as `key=value,` and put `;` between pieces.
-ghost use Rattle.std.specs.Prelude.{◌<◌};
+ghost use Rattle.std.specs.Prelude.{◌≤◌, ◌<◌};
 
 use super::*;
 use apx_tuple::{Bag, Key, Kind, State, Tuple};
@@ -111,5 +111,63 @@ fn the_best_of_two_partitions_feed_two_sums(rt: HostRuntime) -> Result<(), Fail>
         text.push_str(shown(alloc, &rows)?.as_str())?;
     }
     assert_eq!(rt; text.as_str(), "b=5,a=5,");
+    Ok(())
+}
+
+// The best two of a piece, of which each of `n` partitions finds its own best two.
+fn best_of_parts(alloc: Global, n: u8) -> Result<String, Fail>
+    requires low { 1 ≤ n }
+    requires high { n ≤ 8 }
+{
+    let kind = Kind::Top { k: 2 };
+    let mut all = Fold::of(alloc, &kind, 1, 0);
+    for i in 0..n {
+        let mut part = Fold::of(alloc, &kind, n, i);
+        part.take_all(0, piece_of(alloc, "b=5,a=5,c=5,d=1")?)?;
+        let (_, rows) = part.end_unsorted(1, State::new(alloc))?;
+        all.take_all(0, rows)?;
+    }
+    let (_, best) = all.end_by_value(1, State::new(alloc))?;
+    shown(alloc, &best)
+}
+
+#[test]
+fn the_best_are_the_same_with_one_partition_and_with_three(rt: HostRuntime) -> Result<(), Fail> {
+    let alloc = rt.alloc();
+    assert_eq!(rt; best_of_parts(alloc, 1)?.as_str(), "a=5,b=5,");
+    assert_eq!(rt; best_of_parts(alloc, 3)?.as_str(), "a=5,b=5,");
+    Ok(())
+}
+
+#[test]
+fn a_sum_is_told_at_each_third_window_alone(rt: HostRuntime) -> Result<(), Fail> {
+    let alloc = rt.alloc();
+    let mut state = State::new(alloc);
+    let mut text = String::new(alloc);
+    for window in 1..5 {
+        let mut fold = Fold::of(alloc, &Kind::Tumble { every: 3 }, 1, 0);
+        fold.take(0, &piece_of(alloc, "k=1")?)?;
+        let (kept, rows) = fold.end_by_value(window, state)?;
+        state = kept;
+        text.push_str(shown(alloc, &rows)?.as_str())?;
+        text.push_str(";")?;
+    }
+    assert_eq!(rt; text.as_str(), ";;k=3,;;");
+    Ok(())
+}
+
+#[test]
+fn a_rate_is_kept_for_the_windows_behind_its_own(rt: HostRuntime) -> Result<(), Fail> {
+    let alloc = rt.alloc();
+    let mut fold = Fold::of(alloc, &Kind::Enrich, 1, 0);
+    fold.take(0, &piece_of(alloc, "k=1")?)?;
+    fold.take(1, &piece_of(alloc, "k=7")?)?;
+    fold.take(1, &piece_of(alloc, "k=10")?)?;
+    let (state, first) = fold.end(1, &State::new(alloc))?;
+    let mut fold = Fold::of(alloc, &Kind::Enrich, 1, 0);
+    fold.take(0, &piece_of(alloc, "k=2,z=1")?)?;
+    let (_, second) = fold.end(2, &state)?;
+    assert_eq!(rt; shown(alloc, &first)?.as_str(), "k=11,");
+    assert_eq!(rt; shown(alloc, &second)?.as_str(), "k=12,");
     Ok(())
 }

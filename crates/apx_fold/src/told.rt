@@ -74,6 +74,10 @@ impl Folding for Told {
         let rows = Bag::of(self.told)?;
         Ok((State::new(self.alloc), rows))
     }
+
+    fn end_unsorted(self, _window: u32, _state: State) -> Result<(State, Vec<Tuple>), Short> {
+        Ok((State::new(self.alloc), self.told))
+    }
 }
 
 /// Tells the tuples that the partition owns.
