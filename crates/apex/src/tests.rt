@@ -12,6 +12,10 @@ const COUNTED: &str =
 /// What a run of it over the lines b, a prints.
 const PRINTED: &str = "window 1 4294967296000000000 2\na\t1\nb\t1\n";
 
+/// The report of that run.
+const REPORT: &str =
+    "windows 1\nrows 2\nstarts 2\nwrites 1\nsaves 0\nkills 0\nrepartitions 0\ncommitted 0\n";
+
 fn folder(alloc: Global) -> Result<MemoryFolder, AllocError> {
     let mut files = MemoryFolder::new(alloc);
     files.add(
@@ -41,7 +45,8 @@ fn front(room: &[u8]) -> &[u8] {
 fn each_end_has_its_status_and_its_streams(rt: HostRuntime) -> Result<(), Fail> {
     let alloc = rt.alloc();
     for (words, out_room, status, out, err) in [
-        (&["sim", "app.json"][..], 80, 0, PRINTED, ""),
+        (&["sim", "app.json"][..], 80, 0, PRINTED, REPORT),
+        (&["run", "app.json"][..], 80, 0, PRINTED, REPORT),
         (&["check", "app.json"][..], 80, 0, "ok\n", ""),
         (
             &["sim", "app.json", "more"][..],
@@ -59,8 +64,9 @@ fn each_end_has_its_status_and_its_streams(rt: HostRuntime) -> Result<(), Fail> 
         ),
         (&["sim", "app.json"][..], 10, 12, "window 1 4", ""),
     ] {
-        let mut rooms = ([0u8; 80], [0u8; 80]);
+        let mut rooms = ([0u8; 80], [0u8; 120]);
         let found = program(
+            &rt,
             alloc,
             Ok(given(alloc, words)?),
             &mut folder(alloc)?,
@@ -81,6 +87,7 @@ fn words_that_the_system_can_not_give(rt: HostRuntime) -> Result<(), Fail> {
     assert!(rt; no_words(alloc, ErrorKind::OutOfMemory).is_err());
     let mut rooms = ([0u8; 30], [0u8; 30]);
     let status = program(
+        &rt,
         alloc,
         Err(AllocError),
         &mut folder(alloc)?,

@@ -1,7 +1,7 @@
 //! Writing the text of a journal.
 ghost use Rattle.std.specs.Prelude.{◌≡◌, ◌++◌, decimal, OnOk, OnErr};
-ghost use Rattle.std.specs.List.{flat_map};
-ghost use Rattle.apx_audit.specs.Text.{place_text, event_text, line_text, journal_text};
+ghost use Rattle.std.specs.List.{AllByRecursion, flat_map};
+ghost use Rattle.apx_audit.specs.Text.{place_text, event_text, line_text, journal_text, IsEvent, IsEntry};
 ghost use Rattle.apx_report.specs.Extends.{Extends};
 
 use apx_history::{Entry, Event};
@@ -20,6 +20,8 @@ use std::alloc::AllocError;
 /// ```
 pub fn journal_text(journal: &Journal, into: &mut Vec<u8>) -> Result<(), AllocError>
     ensures ok { OnOk result (into.new.items ≡ into.old.items ++ journal_text journal.now) }
+    // The numbers of its entries are those that entries may have, so the text is read as these entries and no others.
+    ensures entries { OnOk result (AllByRecursion IsEntry journal.now) }
     ensures err { OnErr result (into.new.items ≡ into.old.items) }
 {
     let len = into.len();
@@ -33,6 +35,7 @@ pub fn journal_text(journal: &Journal, into: &mut Vec<u8>) -> Result<(), AllocEr
 /// Appends the lines of entries, in order.
 fn append_entries(entries: &[Entry], into: &mut Vec<u8>) -> Result<(), AllocError>
     ensures ok { OnOk result (into.new.items ≡ into.old.items ++ journal_text entries.now) }
+    ensures entries { OnOk result (AllByRecursion IsEntry entries.now) }
     ensures kept { Extends into.old.items into.new.items }
 {
     for entry in entries {
@@ -45,6 +48,7 @@ fn append_entries(entries: &[Entry], into: &mut Vec<u8>) -> Result<(), AllocErro
 #[tactic(auto, unfolding(crate::specs::Text::entry_text))]
 fn append_entry(entry: Entry, into: &mut Vec<u8>) -> Result<(), AllocError>
     ensures ok { OnOk result (into.new.items ≡ into.old.items ++ line_text entry) }
+    ensures entry { OnOk result (IsEntry entry) }
     ensures kept { Extends into.old.items into.new.items }
 {
     into.extend_from_slice(Buffer::new().format(entry.worker).as_bytes())?;
@@ -57,6 +61,7 @@ fn append_entry(entry: Entry, into: &mut Vec<u8>) -> Result<(), AllocError>
 #[tactic(auto, unfolding(crate::specs::Text::event_text))]
 fn append_event(event: Event, into: &mut Vec<u8>) -> Result<(), AllocError>
     ensures ok { OnOk result (into.new.items ≡ into.old.items ++ event_text event) }
+    ensures event { IsEvent event }
     ensures kept { Extends into.old.items into.new.items }
 {
     match event {

@@ -5,3 +5,4 @@ pub mod Readings
 mod Scripting
 pub mod Stopping
 pub mod Unique
+pub mod Writing

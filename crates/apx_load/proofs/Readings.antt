@@ -11,12 +11,12 @@ use Rattle.apx_pass.specs.Pass.{Dataflow}
 use Rattle.apx_pass.specs.Script.{Line}
 use Rattle.apx_script.specs.declared.settings.Settings.{Settings}
 use Rattle.apx_cmd.specs.declared.commands.Command.{Command}
-use Rattle.apx_cmd.specs.declared.commands.Command.TheVariants.{Check, Plan, Mean, Sim, Audit}
+use Rattle.apx_cmd.specs.declared.commands.Command.TheVariants.{Check, Plan, Mean, Sim, Run, Gen, Trace, Audit}
 use Rattle.apx_pass.specs.Job.{Job}
 use Rattle.apx_load.specs.declared.refusal.Refusal.{Refusal}
 use Rattle.apx_load.specs.declared.refusal.Refusal.TheVariants.{NoFile, FileTooLong}
 use Rattle.apx_load.specs.Refusals.{Reading, by_files, by_answers, IsFileRefusal, IsApplication, IsApplicationRefusal, IsInputOf, IsInputRefusal, AreRead, AreInputs, IsInputsRefusal, IsAcceptedRun, IsRunRefusal}
-use Rattle.apx_load.specs.Jobs.{IsScript, IsScriptRefusal, IsScripted, IsScriptedRefusal, IsJob, IsJobRefusal, IsRunJob, IsRunJobRefusal}
+use Rattle.apx_load.specs.Jobs.{IsScript, IsScriptRefusal, IsScripted, IsScriptedRefusal, IsJob, IsJobRefusal}
 use Rattle.apx_load.specs.Audits.{IsLegalFile, IsJournalRefusal, IsAudited, IsLegal, IsAuditRefusal}
 use Rattle.apx_load.specs.First.{IsAcceptedBy, IsRefusedBy, AreAccepted, IsRefusal, of_words, of_files}
 
@@ -108,13 +108,6 @@ module _ (R S : Reading) (of : IsOf R S) where
   of-job-refusal name script settings r (inl run) = inl (of-run-refusal name r run)
   of-job-refusal name script settings r (inr own) = inr (own.0, of-run name own.0 own.1, of-scripted-refusal own.0 script settings r own.2)
 
-  pub of-run-job : (name : List ℕ) (script : Option (List ℕ)) (settings : Settings) (job : Job) → IsRunJob R name script settings job → IsRunJob S name script settings job
-  of-run-job name script settings job is = record { accepted = of-job name script settings job is.accepted; run = is.run }
-
-  pub of-run-job-refusal : (name : List ℕ) (script : Option (List ℕ)) (settings : Settings) (r : Refusal) → IsRunJobRefusal R name script settings r → IsRunJobRefusal S name script settings r
-  of-run-job-refusal name script settings r (inl own) = inl (of-job-refusal name script settings r own)
-  of-run-job-refusal name script settings r (inr job) = inr (job.0, of-job name script settings job.0 job.1, job.2)
-
   pub of-legal-file : (name : List ℕ) (job : Job) (es : List Entry) → IsLegalFile R name job es → IsLegalFile S name job es
   of-legal-file name job es is = record { text = is.text; read = of name _ _ is.read; legal = is.legal }
 
@@ -137,7 +130,10 @@ module _ (R S : Reading) (of : IsOf R S) where
   accepted_by (Check app) is = (is.0, of-application app is.0 is.1)
   accepted_by (Plan app) is = (is.0, of-application app is.0 is.1)
   accepted_by (Mean app base) is = (is.0, of-run app is.0 is.1)
-  accepted_by (Sim app script settings order) is = (is.0, of-run-job app script settings is.0 is.1)
+  accepted_by (Sim app script settings order) is = (is.0, of-job app script settings is.0 is.1)
+  accepted_by (Run app script settings threads) is = (is.0, of-job app script settings is.0 is.1)
+  accepted_by (Gen number size) is = is
+  accepted_by (Trace app script settings order) is = (is.0, of-job app script settings is.0 is.1)
   accepted_by (Audit app journal script settings) is = (is.0, of-audited app journal script settings is.0 is.1)
   accepted_by _ is = absurd is
 
@@ -145,7 +141,10 @@ module _ (R S : Reading) (of : IsOf R S) where
   refused_by (Check app) r is = of-application-refusal app r is
   refused_by (Plan app) r is = of-application-refusal app r is
   refused_by (Mean app base) r is = of-run-refusal app r is
-  refused_by (Sim app script settings order) r is = of-run-job-refusal app script settings r is
+  refused_by (Sim app script settings order) r is = of-job-refusal app script settings r is
+  refused_by (Run app script settings threads) r is = of-job-refusal app script settings r is
+  refused_by (Gen number size) r is = absurd is
+  refused_by (Trace app script settings order) r is = of-job-refusal app script settings r is
   refused_by (Audit app journal script settings) r is = of-audit-refusal app journal script settings r is
   refused_by _ r is = is
 

@@ -19,7 +19,7 @@ use Rattle.apx_load.specs.declared.refusal.LineCause.TheVariants as cause
 use Rattle.apx_load.specs.declared.refusal.Refusal.{Refusal}
 use Rattle.apx_load.specs.declared.refusal.Refusal.TheVariants.{NotACommand, NoFile, FileTooLong, NoJson, WrongShape, BrokenRule, RefusedLine, RefusedCommand, RefusedEntry, NotBuilt}
 use Rattle.apx_cmd.specs.declared.commands.Command.{Command}
-use Rattle.apx_cmd.specs.declared.commands.Command.TheVariants.{Check, Plan, Mean, Sim, Audit}
+use Rattle.apx_cmd.specs.declared.commands.Command.TheVariants.{Check, Plan, Mean, Sim, Run, Gen, Trace, Audit}
 use Rattle.apx_cmd.specs.Commands.{command_of}
 use Rattle.apx_pass.specs.Script.{Line, RefusedLine as RefusedScript, script_of}
 use Rattle.apx_script.specs.declared.settings.Settings.{Settings}
@@ -32,7 +32,7 @@ use Rattle.serde_json.specs.Data.{Data}
 use Rattle.apx_json.specs.Reading.{IsJson}
 use Rattle.apx_json.specs.Shape.{application_of}
 use Rattle.apx_dag.specs.Order.{Reaches}
-use Rattle.apx_load.specs.Jobs.{IsLineOfText, IsScript, IsScriptRefusal, IsLineOfJob, IsScripted, IsScriptedRefusal, IsJob, IsJobRefusal, kills, IsNotRun, IsRunJob, IsRunJobRefusal}
+use Rattle.apx_load.specs.Jobs.{IsLineOfText, IsScript, IsScriptRefusal, IsLineOfJob, IsScripted, IsScriptedRefusal, IsJob, IsJobRefusal}
 use Rattle.apx_load.specs.Audits.{IsEntryRefusal, IsUnrefused, IsJournalFile, IsJournalRefusal, IsAudited, IsAuditRefusal}
 use Rattle.apx_load.specs.First.{IsAcceptedBy, IsRefusedBy, AreAccepted, IsRefusal, of_words, of_files}
 use Rattle.apx_load.specs.Refusals.{by_files, IsAppText, IsTextRefusal, IsFileRefusal, IsApplication, IsApplicationRefusal, cause_view, IsInputOf, IsLineRefusal, IsInputRefusal, AreRead, AreInputs, IsInputsRefusal, IsAcceptedRun, IsRunRefusal}
@@ -418,24 +418,6 @@ scripted_decided told flow script settings =
       total = λ none unrefused. both.total (λ job is. none job (record { lines = is.0; read = is.1; judged = is.2.0; is = is.2.1 })) unrefused;
     }
 
--- ---- a job that is run
-
-not_run_refused : (job : Job) (r s : Refusal) → IsNotRun job r → IsNotRun job s → r ≡ s
-not_run_refused job NotBuilt NotBuilt p q = refl
-not_run_refused job NotBuilt _ p q = absurd q
-not_run_refused job _ s p q = absurd p
-
-not_run_apart : (job same : Job) (r : Refusal) → (kills job ≡ false) × (same ≡ job) → IsNotRun job r → ⊥
-not_run_apart job same NotBuilt p q = let a = p.0 in let b = q in cc
-not_run_apart job same _ p q = absurd q
-
-can_run_total : (job : Job) (killed : Bool) → kills job ≡ killed → ((same : Job) → (kills job ≡ false) × (same ≡ job) → ⊥) → ((r : Refusal) → IsNotRun job r → ⊥) → ⊥
-can_run_total job true is none unrefused = unrefused NotBuilt is
-can_run_total job false is none unrefused = none job (is, refl)
-
-can_run_decided : (job : Job) → IsDecided Job (λ same. (kills job ≡ false) × (same ≡ job)) (IsNotRun job)
-can_run_decided job = record { accepted = λ x y p q. p.1 ∙ sym q.1; refused = not_run_refused job; apart = not_run_apart job; total = can_run_total job (kills job) refl }
-
 -- ---- a journal
 
 -- a first refused line is one
@@ -502,20 +484,13 @@ module _ (told : List ℕ → Option (List ℕ)) where
   job_decided name script settings =
       then Dataflow Job (IsAcceptedRun (by_files told) name) (IsRunRefusal (by_files told) name) (λ flow. IsScripted (by_files told) flow script settings) (λ flow. IsScriptedRefusal (by_files told) flow script settings) (run_decided name) (λ flow. scripted_decided told flow script settings)
 
-  run_job_decided : (name : List ℕ) (script : Option (List ℕ)) (settings : Settings) → IsDecided Job (IsRunJob (by_files told) name script settings) (IsRunJobRefusal (by_files told) name script settings)
-  run_job_decided name script settings =
-      let both : IsDecided Job (λ same. (job : Job) × IsJob (by_files told) name script settings job × ((kills job ≡ false) × (same ≡ job))) (IsRunJobRefusal (by_files told) name script settings) =
-      then Job Job (IsJob (by_files told) name script settings) (IsJobRefusal (by_files told) name script settings) (λ job same. (kills job ≡ false) × (same ≡ job)) IsNotRun (job_decided name script settings) can_run_decided in
-      record {
-        accepted = λ x y p q. both.accepted x y (x, p.accepted, (p.run, refl)) (y, q.accepted, (q.run, refl));
-        refused = both.refused;
-        apart = λ x r p q. both.apart x r (x, p.accepted, (p.run, refl)) q;
-        total = λ none unrefused. both.total (λ same is. none is.0 (record { accepted = is.1; run = is.2.0 })) unrefused;
-      }
-
   -- the job that is run is one
-  pub job-unique : (name : List ℕ) (script : Option (List ℕ)) (settings : Settings) (job other : Job) → IsRunJob (by_files told) name script settings job → IsRunJob (by_files told) name script settings other → job ≡ other
-  job-unique name script settings = (run_job_decided name script settings).accepted
+  pub job-unique : (name : List ℕ) (script : Option (List ℕ)) (settings : Settings) (job other : Job) → IsJob (by_files told) name script settings job → IsJob (by_files told) name script settings other → job ≡ other
+  job-unique name script settings = (job_decided name script settings).accepted
+
+  -- it isn't both accepted and refused
+  pub job-or-refused : (name : List ℕ) (script : Option (List ℕ)) (settings : Settings) (job : Job) (r : Refusal) → IsJob (by_files told) name script settings job → IsJobRefusal (by_files told) name script settings r → ⊥
+  job-or-refused name script settings = (job_decided name script settings).apart
 
   audit_decided : (app journal : List ℕ) (script : Option (List ℕ)) (settings : Settings) → IsDecided (List ℕ) (IsAudited (by_files told) app journal script settings) (IsAuditRefusal (by_files told) app journal script settings)
   audit_decided app journal script settings =
@@ -533,7 +508,10 @@ module _ (told : List ℕ → Option (List ℕ)) where
   refused_by (Check app) r s p q = (application_decided told app).refused r s p q
   refused_by (Plan app) r s p q = (application_decided told app).refused r s p q
   refused_by (Mean app base) r s p q = (run_decided app).refused r s p q
-  refused_by (Sim app script settings order) r s p q = (run_job_decided app script settings).refused r s p q
+  refused_by (Sim app script settings order) r s p q = (job_decided app script settings).refused r s p q
+  refused_by (Run app script settings threads) r s p q = (job_decided app script settings).refused r s p q
+  refused_by (Gen number size) r s p q = absurd p
+  refused_by (Trace app script settings order) r s p q = (job_decided app script settings).refused r s p q
   refused_by (Audit app journal script settings) r s p q = (audit_decided app journal script settings).refused r s p q
   refused_by _ r s p q = p ∙ sym q
 
@@ -541,7 +519,10 @@ module _ (told : List ℕ → Option (List ℕ)) where
   apart_by (Check app) r p q = (application_decided told app).apart p.0 r p.1 q
   apart_by (Plan app) r p q = (application_decided told app).apart p.0 r p.1 q
   apart_by (Mean app base) r p q = (run_decided app).apart p.0 r p.1 q
-  apart_by (Sim app script settings order) r p q = (run_job_decided app script settings).apart p.0 r p.1 q
+  apart_by (Sim app script settings order) r p q = (job_decided app script settings).apart p.0 r p.1 q
+  apart_by (Run app script settings threads) r p q = (job_decided app script settings).apart p.0 r p.1 q
+  apart_by (Gen number size) r p q = absurd q
+  apart_by (Trace app script settings order) r p q = (job_decided app script settings).apart p.0 r p.1 q
   apart_by (Audit app journal script settings) r p q = (audit_decided app journal script settings).apart p.0 r p.1 q
   apart_by _ r p q = absurd p
 
@@ -549,7 +530,10 @@ module _ (told : List ℕ → Option (List ℕ)) where
   total_by (Check app) none unrefused = (application_decided told app).total (λ nodes is. none (nodes, is)) unrefused
   total_by (Plan app) none unrefused = (application_decided told app).total (λ nodes is. none (nodes, is)) unrefused
   total_by (Mean app base) none unrefused = (run_decided app).total (λ flow is. none (flow, is)) unrefused
-  total_by (Sim app script settings order) none unrefused = (run_job_decided app script settings).total (λ job is. none (job, is)) unrefused
+  total_by (Sim app script settings order) none unrefused = (job_decided app script settings).total (λ job is. none (job, is)) unrefused
+  total_by (Run app script settings threads) none unrefused = (job_decided app script settings).total (λ job is. none (job, is)) unrefused
+  total_by (Gen number size) none unrefused = none tt
+  total_by (Trace app script settings order) none unrefused = (job_decided app script settings).total (λ job is. none (job, is)) unrefused
   total_by (Audit app journal script settings) none unrefused = (audit_decided app journal script settings).total (λ text is. none (text, is)) unrefused
   total_by _ none unrefused = unrefused NotBuilt refl
 

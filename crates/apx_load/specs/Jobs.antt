@@ -2,16 +2,15 @@
 --     IsScript reading script lines                     the script's file is accepted, and its commands
 --     IsJob reading name script settings job            application, inputs and script are accepted, and their job
 --     IsJobRefusal reading name script settings refusal the first thing that is refused
-use Rattle.std.specs.Prelude.{◌≡◌, ℕ, ◌⊎◌, Bool, true, false, List, [], Option, Some, None, Ok, Err}
+use Rattle.std.specs.Prelude.{◌≡◌, ℕ, ◌⊎◌, List, [], Option, Some, None, Ok, Err}
 use Rattle.apx_pass.specs.Pass.{Dataflow}
-use Rattle.std.specs.List.{list_any}
-use Rattle.apx_pass.specs.Script.{Act, Kill, Repartition, Line, script_of}
+use Rattle.apx_pass.specs.Script.{Line, script_of}
 use Rattle.apx_script.specs.declared.settings.Settings.{Settings}
 use Rattle.apx_pass.specs.Job.{Job}
 use Rattle.apx_job.specs.Job.{refused_line}
 use Rattle.apx_job.specs.Prepared.{job_of}
 use Rattle.apx_load.specs.declared.refusal.Refusal.{Refusal}
-use Rattle.apx_load.specs.declared.refusal.Refusal.TheVariants.{RefusedCommand, NotBuilt}
+use Rattle.apx_load.specs.declared.refusal.Refusal.TheVariants.{RefusedCommand}
 use Rattle.apx_load.specs.Refusals.{Reading, IsFileRefusal, IsAcceptedRun, IsRunRefusal}
 
 -- ---- the script's file: at most 1 MiB, and no line that is refused by itself
@@ -67,32 +66,3 @@ abbrev pub IsJobRefusal : Reading → List ℕ → Option (List ℕ) → Setting
 IsJobRefusal reading name script settings refusal =
     IsRunRefusal reading name refusal
     ⊎ ((flow : Dataflow) × IsAcceptedRun reading name flow × IsScriptedRefusal reading flow script settings refusal)
-
--- ---- the jobs that are run
-
--- a command fails a partition
-abbrev pub is_kill : Act → Bool
-is_kill (Kill point window part operator) = true
-is_kill (Repartition window count operator) = false
-
--- a command of the script fails a partition
-abbrev pub kills : Job → Bool
-kills job = list_any (λ line. is_kill line.act) job.script
-
--- a job whose script fails a partition isn't run yet
-abbrev pub IsNotRun : Job → Refusal → Type 0
-IsNotRun job NotBuilt = kills job ≡ true
-IsNotRun job _ = ⊥
-
--- a job is accepted, and it can be run
-pub record IsRunJob (reading : Reading) (name : List ℕ) (script : Option (List ℕ)) (settings : Settings) (job : Job) : Type 0 where
-  -- its parts are accepted
-  pub accepted : IsJob reading name script settings job
-  -- its script fails no partition
-  pub run : kills job ≡ false
-
--- the first refusal of its parts, or else that it can't be run
-abbrev pub IsRunJobRefusal : Reading → List ℕ → Option (List ℕ) → Settings → Refusal → Type 0
-IsRunJobRefusal reading name script settings refusal =
-    IsJobRefusal reading name script settings refusal
-    ⊎ ((job : Job) × IsJob reading name script settings job × IsNotRun job refusal)

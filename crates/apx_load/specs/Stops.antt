@@ -21,7 +21,7 @@ use Rattle.apx_device.specs.Folder.{Answer, StopsAt}
 use Rattle.apx_load.specs.declared.refusal.Refusal.{Refusal}
 use Rattle.apx_load.specs.declared.refusal.Refusal.TheVariants.{NotACommand, NoFile, FileTooLong, NoJson, WrongShape, BrokenRule, RefusedCommand, RefusedEntry}
 use Rattle.apx_load.specs.declared.stop.Stop.{Stop}
-use Rattle.apx_load.specs.declared.stop.Stop.TheVariants.{Refused, CannotRead, StoreFailed, OutputFailed, Memory, Large}
+use Rattle.apx_load.specs.declared.stop.Stop.TheVariants.{Refused, CannotRead, VaultFailed, StoreFailed, SpoolFailed, StateDamaged, BlockDamaged, OutputFailed, Memory, Large}
 
 -- for each kind of stop, when it may come
 pub record Causes : Type 1 where
@@ -29,8 +29,16 @@ pub record Causes : Type 1 where
   pub refuses : Refusal → Type 0
   -- the folder may have failed at the file of this name
   pub unread : List ℕ → Type 0
+  -- the checkpoint store may have failed
+  pub vault : Type 0
   -- the sink's store may have failed
   pub store : Type 0
+  -- a spool may have failed, or none could be made
+  pub spool : Type 0
+  -- the checkpoint store may have given bytes that spell no state
+  pub state : Type 0
+  -- a spool may have given bytes that are not the block it was asked for
+  pub block : Type 0
   -- the output may have failed
   pub output : Type 0
   -- a bag or a state may be too large
@@ -40,14 +48,28 @@ pub record Causes : Type 1 where
 abbrev pub IsCaused : Causes → Stop → Type 0
 IsCaused causes (Refused refusal) = causes.refuses refusal
 IsCaused causes (CannotRead name) = causes.unread name
+IsCaused causes VaultFailed = causes.vault
 IsCaused causes StoreFailed = causes.store
+IsCaused causes SpoolFailed = causes.spool
+IsCaused causes StateDamaged = causes.state
+IsCaused causes BlockDamaged = causes.block
 IsCaused causes OutputFailed = causes.output
 IsCaused causes Large = causes.large
 IsCaused causes Memory = ⊤
 
 -- nothing may come, but for want of memory
 abbrev pub no_causes : Causes
-no_causes = record { refuses = λ refusal. ⊥; unread = λ name. ⊥; store = ⊥; output = ⊥; large = ⊥ }
+no_causes = record {
+  refuses = λ refusal. ⊥;
+  unread = λ name. ⊥;
+  vault = ⊥;
+  store = ⊥;
+  spool = ⊥;
+  state = ⊥;
+  block = ⊥;
+  output = ⊥;
+  large = ⊥;
+}
 
 -- a stop at a file of this name, by why it wasn't read
 abbrev pub IsUnread : List ℕ → ReadRefusal → Stop → Type 0

@@ -3,7 +3,7 @@
 
 pub use audits::audit;
 pub use jobs::job;
-pub use laws::words_and_files_are_decided;
+pub use laws::{words_and_files_are_decided, written_journals_are_legal};
 pub use load::{application, inputs, run};
 pub use refusal::{LineCause, Refusal};
 pub use stop::Stop;

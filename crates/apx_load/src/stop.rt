@@ -16,8 +16,16 @@ pub enum Stop {
     Refused(Refusal),
     /// The folder failed at this file.
     CannotRead { name: Name },
+    /// The checkpoint store failed.
+    VaultFailed,
     /// The sink's store failed.
     StoreFailed,
+    /// A spool failed, or none could be made.
+    SpoolFailed,
+    /// The checkpoint store gave bytes that spell no state.
+    StateDamaged,
+    /// A spool gave bytes that are not the block it was asked for.
+    BlockDamaged,
     /// The output failed.
     OutputFailed,
     /// Memory ran out.

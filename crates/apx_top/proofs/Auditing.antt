@@ -1,5 +1,5 @@
 -- What an audit answers by the files that the folder tells.
-use Rattle.std.proofs.Common.{◌≡◌, ℕ, ◌⊎◌, inl, inr, List, Option, Some, refl, ap, subst}
+use Rattle.std.proofs.Common.{◌≡◌, ℕ, ◌⊎◌, inl, inr, List, Option, Some, refl, sym, ap, subst}
 use Rattle.std.specs.Prelude.{Result, Ok, Err, ⊤}
 use Rattle.apx_history.specs.declared.Entry.{Entry}
 use Rattle.apx_device.specs.Folder.{AreTold}
@@ -10,7 +10,7 @@ use Rattle.apx_cmd.specs.Commands.{command_of}
 use Rattle.apx_load.specs.declared.refusal.Refusal.{Refusal}
 use Rattle.apx_load.specs.declared.refusal.Refusal.TheVariants.{RefusedEntry}
 use Rattle.apx_load.specs.declared.stop.Stop.{Stop}
-use Rattle.apx_load.specs.declared.stop.Stop.TheVariants.{Refused, CannotRead, StoreFailed, OutputFailed, Memory, Large}
+use Rattle.apx_load.specs.declared.stop.Stop.TheVariants.{Refused, CannotRead, VaultFailed, StoreFailed, SpoolFailed, StateDamaged, BlockDamaged, OutputFailed, Memory, Large}
 use Rattle.apx_load.specs.Audits.{IsLegal, IsAuditRefusal}
 use Rattle.apx_load.specs.Refusals.{by_answers, by_files}
 use Rattle.apx_load.specs.Stops.{IsCaused}
@@ -19,6 +19,7 @@ use Rattle.apx_load.proofs.Readings.{by-told, of-legal, of-audit-refusal}
 use Rattle.apx_load.proofs.Unique.{audited-or-refused, audit-refusal-unique}
 use Rattle.apx_top.specs.Audits.{HasAnswered, AnswersAudits}
 use Rattle.apx_top.specs.Changes.{Call}
+use Rattle.apx_top.specs.Left.{Left}
 use Rattle.apx_top.specs.Plain.{of_journal, telling_causes, HasToldTo, HasPerformed, HasEnded, no_command, unread, performed}
 
 module _ (words : List (List ℕ)) (call : Call) (files : List ℕ → Option (List ℕ)) (told : AreTold files call.answers) where
@@ -77,7 +78,11 @@ module _ (words : List (List ℕ)) (call : Call) (files : List ℕ → Option (L
     stopped : (stop : Stop) → IsCaused (telling_causes (of_journal (by_answers call.answers) app journal script settings) call.answers call.folder call.output.rose) stop → answered (Err stop)
     stopped (Refused r) is = refuses r (told_refusal r is)
     stopped (CannotRead name) is = fails (CannotRead name) (inl is.0) (λ line why e. cc)
+    stopped VaultFailed is = absurd is
     stopped StoreFailed is = absurd is
+    stopped SpoolFailed is = absurd is
+    stopped StateDamaged is = absurd is
+    stopped BlockDamaged is = absurd is
     stopped OutputFailed is = fails OutputFailed (inr is.0) (λ line why e. cc)
     stopped Memory is = short (Err Memory) refl
     stopped Large is = absurd is.2
@@ -94,15 +99,15 @@ module _ (words : List (List ℕ)) (call : Call) (files : List ℕ → Option (L
     same_command : (a b : Command) → command_of words ≡ Some a → command_of words ≡ Some b → a ≡ b
     same_command a b p q = cc
 
-    by_end : (end : Result ⊤ Stop) → HasEnded words call end → command_of words ≡ Some (Audit app journal script settings) → answered end
-    by_end end (no_command none stayed) command = absurd cc
-    by_end end (unread some stayed) command = short end stayed.is
-    by_end end (performed other is done) command =
-        let told : HasPerformed (Audit app journal script settings) call end = subst (λ (c : Command). HasPerformed c call end) (same_command other (Audit app journal script settings) is command) done in
-        by_telling end told.told
+    by_end : {F : Type 0} (left : Left F) → HasEnded words call left → command_of words ≡ Some (Audit app journal script settings) → answered left.end
+    by_end left (no_command none stayed) command = absurd cc
+    by_end left (unread some stayed) command = short left.end (ap (λ l. l.end) stayed.is)
+    by_end left (performed other is done) command =
+        let told : HasPerformed (Audit app journal script settings) call left = subst (λ (c : Command). HasPerformed c call left) (same_command other (Audit app journal script settings) is command) done in
+        subst answered (sym (ap (λ l. l.end) told.is)) (by_telling told.end told.told)
 
-  pub answers-audits : (end : Result ⊤ Stop) → HasEnded words call end → AnswersAudits files words failed end
-  answers-audits end ended app journal script settings command = by_end app journal script settings end ended command
+  pub answers-audits : {F : Type 0} (left : Left F) → HasEnded words call left → AnswersAudits files words failed left.end
+  answers-audits left ended app journal script settings command = by_end app journal script settings left ended command
 
 -- with more that may fail
 pub answers-weaker : (files : List ℕ → Option (List ℕ)) (words : List (List ℕ)) (fault other : Type 0) (end : Result ⊤ Stop) → (fault → other) → AnswersAudits files words fault end → AnswersAudits files words other end

@@ -1,9 +1,12 @@
 pub mod Acting
 pub mod Auditing
+pub mod Exampled
+pub mod Headlines
 pub mod Numbered
+pub mod Performing
+pub mod Printed
 pub mod Printing
-pub mod Runnable
 pub mod Running
 pub mod Sending
-pub mod Storing
+pub mod Settling
 pub mod Unscripted

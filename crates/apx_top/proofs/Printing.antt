@@ -1,9 +1,13 @@
 -- How much is printed after some windows.
 use Rattle.std.proofs.Common.{◌≡◌, ℕ, suc, ◌+◌, ◌-◌, ◌<◌, List, [], ◌∷◌, ◌++◌, length, take, drop, get_or, refl, sym, ap, ◌∙◌, arith, append_assoc, length-take-le, Some}
 use Rattle.std.specs.Prelude.{slice_get, Result, Ok, Err, IsErr, IsTrue, Bool}
+use Rattle.apx_top.specs.Run.{row_count}
 use Rattle.apx_top.specs.Sent.{HasWritten}
 use Rattle.std.proofs.lemmas.List.{take_more, take-take, append-nil, take-append-drop}
+use Rattle.std.proofs.lemmas.List.Sums.{sum_by_push}
 use Rattle.std.proofs.lemmas.Option.{slice_get-get_or}
+use Rattle.std.specs.List.{sum_by}
+use Rattle.std.specs.Prelude.{min}
 use Rattle.apx_tuple.specs.declared.tuple.Tuple.{Tuple}
 use Rattle.apx_device.specs.Out.{GotFront}
 use Rattle.apx_pass.specs.Texts.{window_text, windows_text}
@@ -43,6 +47,12 @@ module _ (base : ℕ) (stored : List (List Tuple)) (k : ℕ) (h : k < length sto
     where
       no-more : (t : List ℕ) → t ++ [] ≡ t
       no-more t = append-nil t
+
+  -- the rows of one window more
+  pub count-more : row_count (take (k + 1) stored) ≡ min (row_count (take k stored) + length (get_or stored k [])) 18446744073709551615
+  count-more =
+      let e : sum_by length (take (k + 1) stored) ≡ sum_by length (take k stored) + length (get_or stored k []) = ap (sum_by length) (take_more stored k [] h) ∙ sum_by_push length (take k stored) (get_or stored k []) in
+      omega (arith, e)
 
   -- a failure within this window's text leaves a front of the whole
   pub failed : (n : ℕ) → k < n → (old now new : List ℕ) → now ≡ old ++ windows_text base 1 (take k stored) → GotFront (window_text base (k + 1) (get_or stored k [])) now new →

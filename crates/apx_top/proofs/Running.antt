@@ -1,54 +1,66 @@
--- What storing and printing say of a run.
-use Rattle.std.proofs.Common.{◌≡◌, ℕ, ◌≤◌, inr, List, [], ◌∷◌, ◌++◌, length, take, max, refl, sym, ap, ◌∙◌, subst, arith, IsTrue, IfErr}
-use Rattle.std.specs.Prelude.{Result, Ok, Err, ⊤}
+-- Why the run of a job stops.
+use Rattle.std.proofs.Common.{◌⊎◌, inl, inr, List, refl, sym, subst}
+use Rattle.std.specs.Prelude.{Result, Ok, Err, IsSome, ⊤}
 use Rattle.apx_cause.specs.Cause.{Rose}
-use Rattle.apx_tuple.specs.declared.tuple.Tuple.{Tuple}
-use Rattle.apx_device.specs.Out.{GotFront}
-use Rattle.apx_pass.specs.Pass.{windows, mean}
+use Rattle.apx_history.specs.declared.Entry.{Entry}
+use Rattle.apx_course.specs.declared.faults.CoreFault.{CoreFault}
+use Rattle.apx_course.specs.declared.faults.CoreFault.TheVariants as fault
+use Rattle.apx_stores.specs.Caused as caused
+use Rattle.apx_stores.specs.Caused.{IsTooLarge}
 use Rattle.apx_pass.specs.Job.{Job}
-use Rattle.apx_pass.specs.Texts.{windows_text}
 use Rattle.apx_load.specs.declared.stop.Stop.{Stop}
-use Rattle.apx_load.specs.Stops.{IsCaused}
+use Rattle.apx_load.specs.Stops.{Causes, IsCaused, no_causes}
 use Rattle.apx_load.proofs.Stopping.{caused_weaker}
-use Rattle.apx_top.specs.Changes.{StoreChange, OutputChange}
-use Rattle.apx_top.specs.Run.{run_text, printing_causes, HasStored, HasPassedTo}
-use Rattle.apx_top.specs.Sent.{HasWritten}
-use Rattle.apx_top.specs.Store.{HoldsPrefix}
-use Rattle.apx_top.proofs.Storing.{length-mean_up_to}
+use Rattle.apx_top.specs.Changes.{DevicesChange, held_tell}
+use Rattle.apx_top.specs.Faults.{stop_of}
+use Rattle.apx_top.specs.Headline.{IsStateShown, IsBlockShown}
+use Rattle.apx_top.specs.Left.{Left, without_run, stopped_with, ran_to}
+use Rattle.apx_top.specs.Way.{Way}
+use Rattle.apx_top.specs.Run.{printing_causes, start_causes, HasRun, unbegun, stopped, ended}
 
-take-length : {X : Type 0} (xs : List X) → take (length xs) xs ≡ xs
-take-length [] = refl
-take-length (x ∷ xs) = ap (λ l. x ∷ l) (take-length xs)
+-- when a run may stop
+abbrev pub run_causes : {F : Type 0} → Job → DevicesChange → Type 0 → Left F → Causes
+run_causes job devices output left = record no_causes {
+  vault = Rose devices.before.vault devices.now.vault;
+  store = Rose devices.before.keeper devices.now.keeper;
+  spool = IsSome left.spool ⊎ Rose devices.before.spools devices.now.spools;
+  state = IsStateShown devices.vault.tells left.shown;
+  block = IsBlockShown job devices.spools_tell left.shown;
+  output = output;
+  large = IsTooLarge job.flow (held_tell devices);
+}
 
--- a stop while printing, where the store's count rose in a part of the time
-print-cause : (part store output : Type 0) (stop : Stop) → (part → store) → IsCaused (printing_causes part output) stop → IsCaused (printing_causes store output) stop
-print-cause part store output stop longer is =
-    caused_weaker _ _ stop (record { refuses = λ refusal none. none; unread = λ name none. none; store = longer; output = λ rose. rose; large = λ none. none }) is
+-- an end with a stop has its cause
+abbrev pub HasRunCause : {F : Type 0} → Job → DevicesChange → Type 0 → Left F → Result ⊤ Stop → Type 0
+HasRunCause job devices output left (Ok _) = ⊤
+HasRunCause job devices output left (Err stop) = IsCaused (run_causes job devices output left) stop
 
-pub Rose-later : (before mid now : ℕ) → before ≤ mid → Rose mid now → Rose before now
-Rose-later before mid now later rose = omega (arith, rose)
+module _ (F : Type 0) (job : Job) (devices : DevicesChange) (output : Type 0) where
+  -- a fault has the cause that its stop names
+  pub fault_cause : (es : List Entry) (met : CoreFault F) → caused.IsCaused job (held_tell devices) devices.vault.tells devices.spools_tell devices.before devices.now met → IsCaused (run_causes job devices output (stopped_with es met)) (stop_of met)
+  fault_cause es fault.Vault is = is
+  fault_cause es fault.Keeper is = is
+  fault_cause es fault.Spools is = inr is
+  fault_cause es (fault.Spool f) is = inl refl
+  fault_cause es (fault.State id bytes) is = is
+  fault_cause es (fault.Block op part number window index last bytes) is = is
+  fault_cause es fault.Memory is = tt
+  fault_cause es fault.Large is = is
 
-module _ (job : Job) (store : StoreChange) (output : OutputChange) (mid : List (List Tuple)) (n : ℕ) (count : n ≡ windows job.flow) (last : store.last_after ≡ max store.last_before n) (all : IsTrue store.tells → HoldsPrefix job.flow store.before → mid ≡ mean job.flow) (same : store.after ≡ mid) where
-  has_stored : HasStored job.flow store
-  has_stored = record { last = last ∙ ap (max store.last_before) count; stored = λ t h. same ∙ all t h }
+  start_cause : (stop : Stop) → IsCaused (start_causes devices) stop → IsCaused (run_causes job devices output (without_run {F = F} (Err stop))) stop
+  start_cause stop is =
+      caused_weaker _ _ stop (record { refuses = λ refusal none. none; unread = λ name none. none; vault = λ none. absurd none; store = λ none. absurd none; spool = λ rose. inr rose; state = λ none. absurd none; block = λ none. absurd none; output = λ none. absurd none; large = λ none. absurd none }) is
 
-  long : IsTrue store.tells → HoldsPrefix job.flow store.before → n ≡ length mid
-  long t h = count ∙ sym (length-mean_up_to job.flow (windows job.flow)) ∙ sym (ap length (all t h))
+  printing_cause : (es : List Entry) (stop : Stop) → IsCaused (printing_causes (Rose devices.before.keeper devices.now.keeper) output) stop → IsCaused (run_causes job devices output (ran_to {F = F} es (Err stop))) stop
+  printing_cause es stop is =
+      caused_weaker _ _ stop (record { refuses = λ refusal none. none; unread = λ name none. none; vault = λ none. absurd none; store = λ rose. rose; spool = λ none. absurd none; state = λ none. absurd none; block = λ none. absurd none; output = λ rose. rose; large = λ none. absurd none }) is
 
-  text-of : IsTrue store.tells → HoldsPrefix job.flow store.before → windows_text job.settings.base 1 (take n mid) ≡ run_text job
-  text-of t h = ap (windows_text job.settings.base 1) (ap (λ k. take k mid) (long t h) ∙ take-length mid ∙ all t h)
-
-  within : IsTrue store.tells → HoldsPrefix job.flow store.before → n ≤ length mid
-  within t h = let e = long t h in omega (arith, e)
-
-  -- after printing
-  pub passed-of : (part : Type 0) (r : Result ⊤ Stop) → (part → store.rose) → (IsTrue store.tells → n ≤ length mid → HasWritten output.tells (windows_text job.settings.base 1 (take n mid)) r output.before output.after) → IfErr r (IsCaused (printing_causes part output.rose)) → HasPassedTo job store output r
-  passed-of part (Ok v) longer written stop = record {
-    stored = has_stored;
-    printed = λ o t h. written t (within t h) o ∙ ap (λ x. output.before ++ x) (text-of t h);
-  }
-  passed-of part (Err e) longer written stop = inr (record {
-    cause = print-cause part store.rose output.rose e longer stop;
-    stored = has_stored;
-    printed = λ o t h. subst (λ x. GotFront x output.before output.after) (text-of t h) (written t (within t h) o);
-  })
+-- a run has a cause where it stopped
+pub run_cause : {F : Type 0} (U : Type 0) (P : List Entry → Result ⊤ Stop → Type 0) (job : Job) (way : Way) (devices : DevicesChange) (output : Type 0) (left : Left F) → ((es : List Entry) (stop : Stop) → P es (Err stop) → IsCaused (printing_causes (Rose devices.before.keeper devices.now.keeper) output) stop) → HasRun U P job way devices left → HasRunCause job devices output left left.end
+run_cause {F} U P job way devices output left printing (unbegun stop is caused beyond same u) = subst (λ (l : Left F). HasRunCause job devices output l l.end) (sym is) (start_cause F job devices output stop caused)
+run_cause {F} U P job way devices output left printing (stopped es met is ran u) = subst (λ (l : Left F). HasRunCause job devices output l l.end) (sym is) (fault_cause F job devices output es met ran.stopped.cause)
+run_cause {F} U P job way devices output left printing (ended es end is ran p) = subst (λ (l : Left F). HasRunCause job devices output l l.end) (sym is) (at_end end p)
+  where
+    at_end : (end : Result ⊤ Stop) → P es end → HasRunCause job devices output (ran_to {F = F} es end) end
+    at_end (Ok v) p = tt
+    at_end (Err stop) p = printing_cause F job devices output es stop (printing es stop p)

@@ -1,7 +1,12 @@
 pub mod Audits
+pub mod Changes
+pub mod Example
+pub mod Faults
+pub mod Headline
+pub mod Left
 pub mod Lines
 pub mod Plain
-pub mod Changes
 pub mod Run
+pub mod Trace
+pub mod Way
 pub mod Sent
-pub mod Store

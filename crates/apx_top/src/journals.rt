@@ -1,12 +1,13 @@
 //! Journals that are audited: what is told of each, and the status.
 use super::*;
-use apx_device::{Keeper, MemoryFolder, MemoryKeeper, MemoryOut};
+use crate::calls::plain;
+use apx_device::{Keeper, MemoryFolder, MemoryKeeper, MemoryOut, MemorySpools, MemoryVault};
 use std::alloc::Global;
 use std::process::Abort;
 use std::test::Fail;
 
 /// Counts the words of in.txt in two partitions, a line to a window.
-const COUNTED: &str =
+pub(crate) const COUNTED: &str =
     r#"{"operators":[{"name":"read","class":"lines","properties":{"file":"in.txt","perWindow":1}},{"name":"split","class":"words"},{"name":"tally","class":"count","attributes":{"PARTITIONS":2}},{"name":"out","class":"store"}],"streams":[{"name":"s1","source":{"operatorName":"read","portName":"output"},"sinks":[{"operatorName":"split","portName":"input"}]},{"name":"s2","source":{"operatorName":"split","portName":"output"},"sinks":[{"operatorName":"tally","portName":"input"}]},{"name":"s3","source":{"operatorName":"tally","portName":"output"},"sinks":[{"operatorName":"out","portName":"input"}]}]}"#;
 
 /// A run over six lines, with a checkpoint each second window, and a third partition of `tally` from window 5 on.
@@ -36,13 +37,23 @@ fn expect_audit(
     }
     let devices = Devices {
         keeper: MemoryKeeper::new(alloc),
+        vault: MemoryVault::new(alloc),
+        spools: MemorySpools::new(alloc),
     };
     let (mut out, mut err) = (MemoryOut::new(alloc), MemoryOut::new(alloc));
     let Ended {
         status: found,
         end: _,
-        devices: Devices { keeper },
-    } = apex_plain(alloc, &words, &mut folder, devices, &mut out, &mut err);
+        devices,
+        journal: _,
+        shown: _,
+        spool: _,
+    } = plain(alloc, &words, &mut folder, devices, &mut out, &mut err);
+    let Devices {
+        keeper,
+        vault: _,
+        spools: _,
+    } = devices;
     assert_eq!(rt; std::str::from_utf8(out.written())?, told.0);
     assert_eq!(rt; std::str::from_utf8(err.written())?, told.1);
     assert_eq!(rt; found, status);

@@ -17,7 +17,10 @@ pub(crate) fn status(stop: &Stop) -> u8
     match stop {
         Stop::Refused(refusal) => refusal_status(refusal),
         Stop::CannotRead { .. } => 2,
+        Stop::VaultFailed => 8,
         Stop::StoreFailed => 9,
+        Stop::SpoolFailed => 10,
+        Stop::StateDamaged | Stop::BlockDamaged => 11,
         Stop::OutputFailed => 12,
         Stop::Memory => 13,
         Stop::Large => 19,
@@ -47,7 +50,11 @@ pub(crate) fn say<E: Out>(err: &mut E, stop: &Stop) -> Result<(), Failed>
     match stop {
         Stop::Refused(refusal) => say_refusal(err, refusal),
         Stop::CannotRead { name } => say_name(err, "apex: cannot read ", name),
+        Stop::VaultFailed => "apex: checkpoint store failed\n".write_to(err),
         Stop::StoreFailed => "apex: sink store failed\n".write_to(err),
+        Stop::SpoolFailed => "apex: spool failed\n".write_to(err),
+        Stop::StateDamaged => "apex: checkpoint damaged\n".write_to(err),
+        Stop::BlockDamaged => "apex: block damaged\n".write_to(err),
         Stop::OutputFailed => "".write_to(err),
         Stop::Memory => "apex: out of memory\n".write_to(err),
         Stop::Large => "apex: too large\n".write_to(err),

@@ -2,9 +2,10 @@
 ghost use Rattle.std.specs.Prelude.{IsTrue};
 
 use super::*;
+use crate::calls::plain;
 use apx_device::{
     FailingFolder, FailingKeeper, Folder, Keeper, ListedFolder, MemoryFolder, MemoryKeeper,
-    MemoryOut,
+    MemoryOut, MemorySpools, MemoryVault,
 };
 use std::alloc::{AllocError, Global};
 use std::process::Abort;
@@ -15,7 +16,7 @@ const COUNTED: &str =
     r#"{"operators":[{"name":"read","class":"lines","properties":{"file":"in.txt","perWindow":2}},{"name":"tally","class":"count"},{"name":"out","class":"store"}],"streams":[{"name":"s1","source":{"operatorName":"read","portName":"output"},"sinks":[{"operatorName":"tally","portName":"input"}]},{"name":"s2","source":{"operatorName":"tally","portName":"output"},"sinks":[{"operatorName":"out","portName":"input"}]}]}"#;
 
 /// Counts the words of in.txt, two lines to a window.
-const WORDS_COUNTED: &str = r#"{"operators": [
+pub(crate) const WORDS_COUNTED: &str = r#"{"operators": [
   {"name": "read", "class": "lines", "properties": {"file": "in.txt", "perWindow": 2}},
   {"name": "split", "class": "words"},
   {"name": "tally", "class": "count", "attributes": {"PARTITIONS": 2}},
@@ -56,7 +57,7 @@ fn folder(alloc: Global, files: &[(&str, &str)]) -> Result<MemoryFolder, AllocEr
     Ok(folder)
 }
 
-fn words(alloc: Global, words: &[&str]) -> Result<Vec<String>, AllocError> {
+pub(crate) fn words(alloc: Global, words: &[&str]) -> Result<Vec<String>, AllocError> {
     let mut texts = Vec::new(alloc);
     for word in words {
         texts.push(String::from_str(alloc, word)?)?;
@@ -65,7 +66,7 @@ fn words(alloc: Global, words: &[&str]) -> Result<Vec<String>, AllocError> {
 }
 
 /// The pieces, one after the other.
-fn joined(alloc: Global, pieces: &[&str]) -> Result<String, AllocError> {
+pub(crate) fn joined(alloc: Global, pieces: &[&str]) -> Result<String, AllocError> {
     let mut text = String::new(alloc);
     for piece in pieces {
         text.push_str(piece)?;
@@ -74,7 +75,7 @@ fn joined(alloc: Global, pieces: &[&str]) -> Result<String, AllocError> {
 }
 
 /// A text of `count` copies of a piece.
-fn copies(alloc: Global, piece: &str, count: usize) -> Result<String, AllocError> {
+pub(crate) fn copies(alloc: Global, piece: &str, count: usize) -> Result<String, AllocError> {
     let mut text = String::new(alloc);
     for _ in 0..count {
         text.push_str(piece)?;
@@ -104,7 +105,7 @@ fn show_window<K: Keeper>(
 }
 
 /// All that a keeper holds.
-fn shown<K: Keeper>(alloc: Global, keeper: &mut K) -> Result<Vec<u8>, Fail> {
+pub(crate) fn shown<K: Keeper>(alloc: Global, keeper: &mut K) -> Result<Vec<u8>, Fail> {
     let mut text = Vec::new(alloc);
     for done in 0..keeper.last() {
         show_window(alloc, keeper, done + 1, &mut text)?;
@@ -127,8 +128,27 @@ fn run_on<F: Folder, K: Keeper + Drop>(
     let Ended {
         status,
         end: _,
-        devices: Devices { mut keeper },
-    } = apex_plain(alloc, &given, files, Devices { keeper }, &mut out, &mut err);
+        devices,
+        journal: _,
+        shown: _,
+        spool: _,
+    } = plain(
+        alloc,
+        &given,
+        files,
+        Devices {
+            keeper,
+            vault: MemoryVault::new(alloc),
+            spools: MemorySpools::new(alloc),
+        },
+        &mut out,
+        &mut err,
+    );
+    let Devices {
+        mut keeper,
+        vault: _,
+        spools: _,
+    } = devices;
     Ok(Left {
         status,
         out: Vec::from_slice(alloc, out.written())?,
@@ -175,6 +195,13 @@ fn expect(rt: &impl Abort, left: &Left, status: u8, out: &str, err: &str, stored
     assert_eq!(rt; left.stored.as_slice(), stored.as_bytes());
 }
 
+/// Expects a run that was done and reported.
+fn expect_done(rt: &impl Abort, left: &Left, out: &str, stored: &str) {
+    assert_eq!(rt; left.status, 0);
+    assert_eq!(rt; left.out.as_slice(), out.as_bytes());
+    assert_eq!(rt; left.stored.as_slice(), stored.as_bytes());
+}
+
 /// Expects a run that printed and stored nothing.
 fn expect_refused(rt: &impl Abort, left: &Left, status: u8, err: &str) {
     expect(rt, left, status, "", err, "");
@@ -183,16 +210,16 @@ fn expect_refused(rt: &impl Abort, left: &Left, status: u8, err: &str) {
 #[test]
 fn lines_are_counted(rt: HostRuntime) -> Result<(), Fail> {
     let left = simulate(rt.alloc(), COUNTED, "a\nb\na\n")?;
-    expect(&rt, &left, 0, COUNTED_TEXT, "", "a=1 b=1 |a=2 |");
+    expect_done(&rt, &left, COUNTED_TEXT, "a=1 b=1 |a=2 |");
     let left = simulate(rt.alloc(), COUNTED, "")?;
-    expect(&rt, &left, 0, "", "", "");
+    expect_done(&rt, &left, "", "");
     Ok(())
 }
 
 #[test]
 fn lines_are_summed_as_ones(rt: HostRuntime) -> Result<(), Fail> {
     let left = pipe(rt.alloc(), DOUBLE_LINES, r#""class":"sum""#, "a\nb\na\n")?;
-    expect(&rt, &left, 0, COUNTED_TEXT, "", "a=1 b=1 |a=2 |");
+    expect_done(&rt, &left, COUNTED_TEXT, "a=1 b=1 |a=2 |");
     Ok(())
 }
 
@@ -201,9 +228,9 @@ fn words_are_counted(rt: HostRuntime) -> Result<(), Fail> {
     let left = simulate(rt.alloc(), WORDS_COUNTED, "a b\na\nc a\n")?;
     let text =
         "window 1 4294967296000000000 2\na\t2\nb\t1\nwindow 2 4294967296000000001 2\na\t3\nc\t1\n";
-    expect(&rt, &left, 0, text, "", "a=2 b=1 |a=3 c=1 |");
+    expect_done(&rt, &left, text, "a=2 b=1 |a=3 c=1 |");
     let left = simulate(rt.alloc(), WORDS_COUNTED, "")?;
-    expect(&rt, &left, 0, "", "", "");
+    expect_done(&rt, &left, "", "");
     Ok(())
 }
 
@@ -221,7 +248,7 @@ fn a_line_has_at_most_1024_bytes(rt: HostRuntime) -> Result<(), Fail> {
         ],
     )?;
     let stored = joined(alloc, &[longest.as_str(), "=1 |"])?;
-    expect(&rt, &left, 0, text.as_str(), "", stored.as_str());
+    expect_done(&rt, &left, text.as_str(), stored.as_str());
     let longer = copies(alloc, "x", 1025)?;
     let left = simulate(alloc, COUNTED, longer.as_str())?;
     expect_refused(&rt, &left, 6, "apex: line 1 of in.txt refused: too long\n");
@@ -235,7 +262,7 @@ fn a_sum_wraps(rt: HostRuntime) -> Result<(), Fail> {
     let text =
         "window 1 4294967296000000000 1\nk\t9223372036854775807\nwindow 2 4294967296000000001 1\nk\t-9223372036854775808\n";
     let stored = "k=9223372036854775807 |k=-9223372036854775808 |";
-    expect(&rt, &left, 0, text, "", stored);
+    expect_done(&rt, &left, text, stored);
     Ok(())
 }
 
@@ -248,7 +275,7 @@ fn the_top_rows_are_those_of_the_least_keys(rt: HostRuntime) -> Result<(), Fail>
         r#""class":"top","properties":{"k":2},"attributes":{"PARTITIONS":3}"#,
     ] {
         let left = pipe(rt.alloc(), read, step, "b\t5\na\t5\nc\t5\nd\t1\n")?;
-        expect(&rt, &left, 0, text, "", "a=5 b=5 |");
+        expect_done(&rt, &left, text, "a=5 b=5 |");
     }
     Ok(())
 }
@@ -270,7 +297,7 @@ fn a_tumbling_sum_is_told_at_every_third_window(rt: HostRuntime) -> Result<(), F
     let left = pipe(rt.alloc(), SINGLE_PAIRS, step, FOUR_WINDOWS)?;
     let text =
         "window 1 4294967296000000000 0\nwindow 2 4294967296000000001 0\nwindow 3 4294967296000000002 1\nk\t3\nwindow 4 4294967296000000003 0\n";
-    expect(&rt, &left, 0, text, "", "||k=3 ||");
+    expect_done(&rt, &left, text, "||k=3 ||");
     Ok(())
 }
 
@@ -283,7 +310,7 @@ fn windows_are_gathered(rt: HostRuntime) -> Result<(), Fail> {
         r#""class":"sum","attributes":{"APPLICATION_WINDOW_COUNT":2,"PARTITIONS":2}"#,
     ] {
         let left = pipe(rt.alloc(), SINGLE_PAIRS, sum, FOUR_WINDOWS)?;
-        expect(&rt, &left, 0, text, "", "|k=2 ||k=4 |");
+        expect_done(&rt, &left, text, "|k=2 ||k=4 |");
     }
     let tumble =
         r#""class":"tumble","properties":{"every":2},"attributes":{"APPLICATION_WINDOW_COUNT":2}"#;
@@ -322,10 +349,10 @@ fn pair_up(alloc: Global, class: &str) -> Result<Left, Fail> {
 fn two_inputs_are_enriched_or_matched(rt: HostRuntime) -> Result<(), Fail> {
     let left = pair_up(rt.alloc(), "enrich")?;
     let text = "window 1 4294967296000000000 1\nk\t11\nwindow 2 4294967296000000001 1\nk\t12\n";
-    expect(&rt, &left, 0, text, "", "k=11 |k=12 |");
+    expect_done(&rt, &left, text, "k=11 |k=12 |");
     let left = pair_up(rt.alloc(), "match")?;
     let text = "window 1 4294967296000000000 1\nk\t1\nwindow 2 4294967296000000001 0\n";
-    expect(&rt, &left, 0, text, "", "k=1 ||");
+    expect_done(&rt, &left, text, "k=1 ||");
     Ok(())
 }
 
@@ -334,16 +361,16 @@ fn other_words_are_no_command(rt: HostRuntime) -> Result<(), Fail> {
     let rows: [&[&str]; 11] = [
         &[],
         &["sim"],
+        &["sim", "app.json", "--order"],
+        &["sim", "app.json", "--base", "4294959296"],
         &["sim", "app.json", "more"],
         &["sim", ""],
         &["check", "-app.json"],
         &["sim", "app.json", "--base", "1", "--base", "1"],
         &["mean", "app.json", "--order", "1"],
-        // These are commands that aren't built yet.
-        &["run", "app.json"],
-        &["gen", "7", "1000"],
+        &["run", "app.json", "--threads", "17"],
+        // This is a command that isn't built yet.
         &["group", "app.json", "groups"],
-        &["trace", "app.json"],
     ];
     for given in rows {
         let left = run(
@@ -397,7 +424,7 @@ fn an_application_has_at_most_1_mib(rt: HostRuntime) -> Result<(), Fail> {
         app.push_str(" ")?;
     }
     let left = simulate(alloc, app.as_str(), "a\nb\na\n")?;
-    expect(&rt, &left, 0, COUNTED_TEXT, "", "a=1 b=1 |a=2 |");
+    expect_done(&rt, &left, COUNTED_TEXT, "a=1 b=1 |a=2 |");
     app.push_str(" ")?;
     let left = simulate(alloc, app.as_str(), "a\nb\na\n")?;
     expect_refused(&rt, &left, 4, "apex: file too long app.json\n");
@@ -535,12 +562,22 @@ fn an_error_line_that_cannot_be_written_keeps_the_status(rt: HostRuntime) -> Res
     let mut err = MemoryOut::failing(alloc, [1].to_vec(alloc)?);
     let devices = Devices {
         keeper: MemoryKeeper::new(alloc),
+        vault: MemoryVault::new(alloc),
+        spools: MemorySpools::new(alloc),
     };
     let Ended {
         status,
         end: _,
-        devices: Devices { keeper },
-    } = apex_plain(alloc, &given, &mut files, devices, &mut out, &mut err);
+        devices,
+        journal: _,
+        shown: _,
+        spool: _,
+    } = plain(alloc, &given, &mut files, devices, &mut out, &mut err);
+    let Devices {
+        keeper,
+        vault: _,
+        spools: _,
+    } = devices;
     assert_eq!(rt; status, 3);
     assert_eq!(rt; keeper.last(), 0);
     assert_eq!(rt; err.written(), b"".as_slice());
@@ -574,18 +611,28 @@ fn a_stored_window_is_kept_and_the_rest_is_added(rt: HostRuntime) -> Result<(), 
     let (mut out, mut err) = (MemoryOut::new(alloc), MemoryOut::new(alloc));
     let devices = Devices {
         keeper: MemoryKeeper::new(alloc),
+        vault: MemoryVault::new(alloc),
+        spools: MemorySpools::new(alloc),
     };
     let Ended {
         status,
         end: _,
-        devices: Devices { keeper },
-    } = apex_plain(alloc, &given, &mut begun, devices, &mut out, &mut err);
+        devices,
+        journal: _,
+        shown: _,
+        spool: _,
+    } = plain(alloc, &given, &mut begun, devices, &mut out, &mut err);
+    let Devices {
+        keeper,
+        vault: _,
+        spools: _,
+    } = devices;
     assert_eq!(rt; status, 0);
     assert_eq!(rt; keeper.last(), 1);
     let mut files = folder(alloc, &[("app.json", COUNTED), ("in.txt", "a\nb\na\n")])?;
     let out = MemoryOut::new(alloc);
     let left = run_on(alloc, &["sim", "app.json"], &mut files, keeper, out)?;
-    expect(&rt, &left, 0, COUNTED_TEXT, "", "a=1 b=1 |a=2 |");
+    expect_done(&rt, &left, COUNTED_TEXT, "a=1 b=1 |a=2 |");
     Ok(())
 }
 
@@ -598,7 +645,7 @@ fn a_stored_window_is_printed_as_it_stands(rt: HostRuntime) -> Result<(), Fail> 
     let out = MemoryOut::new(alloc);
     let left = run_on(alloc, &["sim", "app.json"], &mut files, keeper, out)?;
     let text = "window 1 4294967296000000000 0\nwindow 2 4294967296000000001 1\na\t2\n";
-    expect(&rt, &left, 0, text, "", "|a=2 |");
+    expect_done(&rt, &left, text, "|a=2 |");
     Ok(())
 }
 
@@ -618,11 +665,11 @@ fn a_mean_is_printed_and_not_stored(rt: HostRuntime) -> Result<(), Fail> {
     let left = mean_on(alloc, &["mean", "app.json"], Vec::new(alloc))?;
     let text =
         "window 1 4294967296000000000 2\na\t2\nb\t1\nwindow 2 4294967296000000001 2\na\t3\nc\t1\n";
-    expect(&rt, &left, 0, text, "", "|");
+    expect_done(&rt, &left, text, "|");
     let words: &[&str] = &["mean", "app.json", "--base", "1"];
     let left = mean_on(alloc, words, Vec::new(alloc))?;
     let text = "window 1 4294967296 2\na\t2\nb\t1\nwindow 2 4294967297 2\na\t3\nc\t1\n";
-    expect(&rt, &left, 0, text, "", "|");
+    expect_done(&rt, &left, text, "|");
     let left = mean_on(alloc, &["mean", "app.json"], [1].to_vec(alloc)?)?;
     expect(&rt, &left, 12, "", "", "|");
     let left = run(alloc, &["mean", "app.json"], &[("app.json", COUNTED)])?;
@@ -636,7 +683,7 @@ fn an_application_is_planned(rt: HostRuntime) -> Result<(), Fail> {
     let left = run(alloc, &["plan", "app.json"], &[("app.json", WORDS_COUNTED)])?;
     let text =
         "operator 0 lines 1 read\n  partition 0 mask 0 keys 0\noperator 1 words 1 split\n  partition 0 mask 0 keys 0\noperator 2 count 2 tally\n  partition 0 mask 1 keys 0\n  partition 1 mask 1 keys 1\noperator 3 store 1 out\n  partition 0 mask 0 keys 0\n";
-    expect(&rt, &left, 0, text, "", "");
+    expect_done(&rt, &left, text, "");
     let left = run(alloc, &["plan", "app.json"], &[("app.json", "{")])?;
     expect_refused(&rt, &left, 5, "apex: application refused: Syntax\n");
     Ok(())
@@ -674,9 +721,9 @@ fn scripted(alloc: Global, script: &str) -> Result<Left, Fail> {
 fn a_script_is_judged_behind_the_inputs(rt: HostRuntime) -> Result<(), Fail> {
     let alloc = rt.alloc();
     let left = scripted(alloc, "# nothing is commanded\n\n")?;
-    expect(&rt, &left, 0, COUNTED_TEXT, "", "a=1 b=1 |a=2 |");
+    expect_done(&rt, &left, COUNTED_TEXT, "a=1 b=1 |a=2 |");
     let left = scripted(alloc, "repartition 2 3 tally\n")?;
-    expect(&rt, &left, 0, COUNTED_TEXT, "", "a=1 b=1 |a=2 |");
+    expect_done(&rt, &left, COUNTED_TEXT, "a=1 b=1 |a=2 |");
     for (script, status, err) in [
         ("kill now 1 0 out\n", 7, "apex: script line 1 refused: S1\n"),
         (
@@ -699,8 +746,6 @@ fn a_script_is_judged_behind_the_inputs(rt: HostRuntime) -> Result<(), Fail> {
             7,
             "apex: script line 1 refused: S5\n",
         ),
-        // Kills aren't built yet.
-        ("kill done 1 0 tally\n", 1, "apex: not a command\n"),
     ] {
         expect_refused(&rt, &scripted(alloc, script)?, status, err);
     }
@@ -717,7 +762,7 @@ fn identifiers_begin_at_the_base(rt: HostRuntime) -> Result<(), Fail> {
     let files = [("app.json", COUNTED), ("in.txt", "a\n")];
     let given = ["sim", "app.json", "--order", "7", "--base", "1"];
     let left = run(rt.alloc(), &given, &files)?;
-    expect(&rt, &left, 0, "window 1 4294967296 1\na\t1\n", "", "a=1 |");
+    expect_done(&rt, &left, "window 1 4294967296 1\na\t1\n", "a=1 |");
     Ok(())
 }
 
@@ -736,7 +781,7 @@ fn run_listed(alloc: Global, given: &[&str], contents: &[&str]) -> Result<Left, 
 fn a_folder_that_tells_nothing_is_read_as_any(rt: HostRuntime) -> Result<(), Fail> {
     let alloc = rt.alloc();
     let left = run_listed(alloc, &["sim", "app.json"], &[COUNTED, "a\nb\na\n"])?;
-    expect(&rt, &left, 0, COUNTED_TEXT, "", "a=1 b=1 |a=2 |");
+    expect_done(&rt, &left, COUNTED_TEXT, "a=1 b=1 |a=2 |");
     let left = run_listed(alloc, &["sim", "app.json"], &[COUNTED])?;
     expect_refused(&rt, &left, 3, "apex: no file in.txt\n");
     let left = run_listed(alloc, &["check", "app.json"], &[COUNTED, "{"])?;
