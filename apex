@@ -10,7 +10,7 @@ program="$top/crates/apex/out/apex"
 built="$top/out/apex.built"
 log="$top/out/apex.log"
 lock="$top/out/apex.lock"
-commands="check plan mean sim audit"
+commands="check plan mean sim run gen trace audit"
 
 say() { printf './apex: %s\n' "$*" >&2; }
 
