@@ -1,5 +1,5 @@
 -- Rows as bytes: of each row the length of its key in two bytes, the key, and its value in eight, in two's complement.
-use Rattle.std.specs.Prelude.{ℕ, ◌+◌, ◌≤◌, Bool, zero, suc, List, [], ◌∷◌, ◌++◌, length, take, drop, Option, Some, None, nat_le, if◌then◌else◌, ◌&&◌, FitsSigned}
+use Rattle.std.specs.Prelude.{◌≡◌, ℕ, ◌+◌, ◌≤◌, Bool, zero, suc, List, [], ◌∷◌, ◌++◌, length, take, drop, Option, Some, None, nat_le, if◌then◌else◌, ◌&&◌, FitsSigned}
 use Rattle.std.specs.List.{flat_map}
 use Rattle.std.specs.Int.{w16, w64, to_be_bytes, from_be_bytes, cast_unsigned, cast_signed}
 use Rattle.apx_tuple.specs.declared.tuple.Tuple.{Tuple}
@@ -44,3 +44,10 @@ abbrev pub rows_in : ℕ → List ℕ → Option (List Tuple)
 rows_in zero [] = Some []
 rows_in zero (byte ∷ bytes) = None
 rows_in (suc count) bytes = if is_row bytes then with_row (row_in bytes) (rows_in count (drop (key_length bytes + 10) bytes)) else None
+
+-- bytes are as they were, with something behind them or nothing
+pub record Extends (old new : List ℕ) : Type 0 where
+  -- what was appended
+  pub more : List ℕ
+  -- it stands behind what was there
+  pub is : new ≡ old ++ more

@@ -1,9 +1,9 @@
 // Rows as bytes: of each row the length of its key in two bytes, the key, and its value in eight, big-endian.
-ghost use Rattle.std.specs.Prelude.{◌≡◌, ◌+◌, ◌++◌, ◌<◌, ◌≤◌, length, Some, None, IfOk, IfSome, OnOk, if◌then◌else◌};
+ghost use Rattle.std.specs.Prelude.{◌≡◌, ◌+◌, ◌++◌, ◌<◌, ◌≤◌, length, Some, None, IfOk, IfSome, OnOk, OnErr, if◌then◌else◌};
 ghost use Rattle.std.specs.Option.{option_map};
 ghost use Rattle.apx_tuple.specs.Size.{size_by};
 ghost use Rattle.apx_tuple.specs.Tuple.{tuple_key};
-ghost use Rattle.apx_device.specs.Rows.{IsRow, row_bytes, rows_bytes, key_length, is_row, row_in, rows_in};
+ghost use Rattle.apx_device.specs.Rows.{IsRow, Extends, row_bytes, rows_bytes, key_length, is_row, row_in, rows_in};
 
 use apx_tuple::{Key, KeyRefusal, Tuple};
 use std::alloc::{AllocError, Global};
@@ -20,12 +20,28 @@ fn bytes_len(rows: &[Tuple]) -> usize
     len
 }
 
-/// Appends the bytes of the rows.
+/// Appends the bytes of the rows. Want of memory alone refuses it, and then all is as it was.
 pub fn append_rows(rows: &[Tuple], into: &mut Vec<u8>) -> Result<(), AllocError>
     requires { size_by tuple_key rows.now < 4294967232 }
     ensures bytes { OnOk result (into.new.items ≡ into.old.items ++ rows_bytes rows.now) }
+    ensures err { OnErr result (into.new.items ≡ into.old.items) }
 
     // They are read back as the same rows.
+    ensures back { OnOk result (rows_in (length rows.now) (rows_bytes rows.now) ≡ Some rows.now) }
+{
+    let len = into.len();
+    let appended = append_all(rows, into);
+    if appended.is_err() {
+        into.truncate(len);
+    }
+    appended
+}
+
+/// Appends the bytes of the rows, or a front of them.
+fn append_all(rows: &[Tuple], into: &mut Vec<u8>) -> Result<(), AllocError>
+    requires { size_by tuple_key rows.now < 4294967232 }
+    ensures bytes { OnOk result (into.new.items ≡ into.old.items ++ rows_bytes rows.now) }
+    ensures kept { Extends into.old.items into.new.items }
     ensures back { OnOk result (rows_in (length rows.now) (rows_bytes rows.now) ≡ Some rows.now) }
 {
     into.reserve(bytes_len(rows))?;
@@ -37,6 +53,7 @@ pub fn append_rows(rows: &[Tuple], into: &mut Vec<u8>) -> Result<(), AllocError>
 
 fn append_row(row: &Tuple, into: &mut Vec<u8>) -> Result<(), AllocError>
     ensures bytes { OnOk result (into.new.items ≡ into.old.items ++ row_bytes row.now) }
+    ensures kept { Extends into.old.items into.new.items }
     ensures row { IsRow row.now }
 {
     let key = row.key.bytes();

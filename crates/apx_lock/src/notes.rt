@@ -1,6 +1,6 @@
 //! The smallest value that a lock keeps: a list of notes. It shows how such a value is written, and how a
 //! thread changes it under its turn.
-ghost use Rattle.std.specs.Prelude.{◌≡◌, ◌++◌, ◌∷◌, ◌⊎◌, [], true, false, OnOk};
+ghost use Rattle.std.specs.Prelude.{◌≡◌, ◌++◌, ◌∷◌, ◌⊎◌, [], true, false, OnOk, OnErr};
 ghost use Rattle.apx_lock.specs.Seats.{IsSeatOf, IsTurnOf};
 ghost use Rattle.apx_lock.specs.Steps.{IsSameSeat};
 
@@ -76,6 +76,7 @@ impl Notes {
     /// Adds a note, or nothing where there is no memory.
     pub fn add(&mut self, note: Note) -> Result<(), AllocError>
         ensures ok { OnOk result (self.new.list.items ≡ self.old.list.items ++ note ∷ []) }
+        ensures err { OnErr result (self.new.list.items ≡ self.old.list.items) }
         ensures change { (self.new.list.items ≡ self.old.list.items) ⊎ (self.new.list.items ≡ self.old.list.items ++ note ∷ []) }
     {
         self.list.push(note)?;

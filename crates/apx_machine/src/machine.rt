@@ -77,11 +77,15 @@ impl Machine {
         self.engine.enabled(&self.engine.outlook(), *event)
     }
 
-    /// The events to choose from, in order, in place of what the list had. For want of memory the list may have a part of them.
+    /// The events to choose from, in order, in place of what the list had. Want of memory leaves the list as it was.
     pub fn choices(&self, into: &mut Vec<Event>) -> Result<(), AllocError>
-        ensures { IfOk result (λ _. into.new.items ≡ choices self.now.plan self.now.state) }
+        ensures ok { OnOk result (into.new.items ≡ choices self.now.plan self.now.state) }
+        ensures err { OnErr result (into.new.items ≡ into.old.items) }
     {
-        self.engine.choices(into)
+        let mut listed = Vec::new(*into.allocator());
+        self.engine.choices(&mut listed)?;
+        *into = listed;
+        Ok(())
     }
 
     /// How many events there are to choose from. While the run goes on there is one.

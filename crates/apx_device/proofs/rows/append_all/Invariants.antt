@@ -1,7 +1,7 @@
 use Rattle.std.proofs.Common.{◌≡◌, ◌++◌, take}
 use Rattle.apx_device.specs.Rows.{rows_bytes}
 use Rattle.apx_device.proofs.Spelled.{AreRows}
-use Rattle.apx_device.proofs.rows.append_rows.Given as goal
+use Rattle.apx_device.proofs.rows.append_all.Given as goal
 
 abbrev pub invariant-loop-row : goal.invariant-loop-row
 invariant-loop-row l = record {

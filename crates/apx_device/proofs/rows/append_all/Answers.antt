@@ -2,7 +2,7 @@ use Rattle.std.proofs.Common.{◌++◌, arith, ap, ◌∙◌, subst}
 use Rattle.std.proofs.lemmas.List.{take_all}
 use Rattle.apx_device.specs.Rows.{rows_bytes}
 use Rattle.apx_device.proofs.Spelled.{AreRows, AreRows-next, rows_bytes-next, rows_back}
-use Rattle.apx_device.proofs.rows.append_rows.Goals as goal
+use Rattle.apx_device.proofs.rows.append_all.Goals as goal
 
 pub loop-row-preserved : goal.loop-row-preserved
 loop-row-preserved c = record {
