@@ -35,8 +35,10 @@ const STORES_SUMS: &str =
 const STORES_LINES: &str =
     r#"{"operators":[{"name":"read","class":"lines","properties":{"file":"in.txt","perWindow":2}},{"name":"out","class":"store"}],"streams":[{"name":"s1","source":{"operatorName":"read","portName":"output"},"sinks":[{"operatorName":"out","portName":"input"}]}]}"#;
 
-/// An operator in two partitions.
+/// An operator in two and in four partitions.
 const TWO: &str = r#","attributes":{"PARTITIONS":2}"#;
+
+const FOUR: &str = r#","attributes":{"PARTITIONS":4}"#;
 
 /// What the six windows leave in the sink's store.
 const SIX_STORED: &str = "a=1 |b=1 |c=1 |a=2 |b=2 |c=2 |";
@@ -147,6 +149,121 @@ fn last_commit(journal: &[Entry]) -> u32 {
         }
     }
     last
+}
+
+/// Ten lines of three words, of which the last is another one in each line, so many times.
+fn quick(alloc: Global, times: usize) -> Result<String, AllocError> {
+    let ten =
+        "the quick w1\nthe quick w2\nthe quick w3\nthe quick w4\nthe quick w5\nthe quick w6\nthe quick w7\nthe quick w8\nthe quick w9\nthe quick w0\n";
+    copies(alloc, ten, times)
+}
+
+/// A window that ten of these lines make, behind so many of them.
+fn quick_window(alloc: Global, done: u64) -> Result<String, AllocError> {
+    let number = done.wrapping_add(1);
+    let window = number.to_string(alloc)?;
+    let tens = number.wrapping_mul(10).to_string(alloc)?;
+    let id = done
+        .wrapping_add(4_294_967_296_000_000_000)
+        .to_string(alloc)?;
+    let (w, t) = (window.as_str(), tens.as_str());
+    joined(
+        alloc,
+        &[
+            "window ",
+            w,
+            " ",
+            id.as_str(),
+            " 12\nquick\t",
+            t,
+            "\nthe\t",
+            t,
+            "\nw0\t",
+            w,
+            "\nw1\t",
+            w,
+            "\nw2\t",
+            w,
+            "\nw3\t",
+            w,
+            "\nw4\t",
+            w,
+            "\nw5\t",
+            w,
+            "\nw6\t",
+            w,
+            "\nw7\t",
+            w,
+            "\nw8\t",
+            w,
+            "\nw9\t",
+            w,
+            "\n",
+        ],
+    )
+}
+
+/// The windows that these lines make.
+fn quick_text(alloc: Global, windows: u64) -> Result<String, AllocError> {
+    let mut text = String::new(alloc);
+    for done in 0..windows {
+        let window = quick_window(alloc, done)?;
+        text.push_str(window.as_str())?;
+    }
+    Ok(text)
+}
+
+/// Expects a run over an application and an input to print these rows and this report, and a mean the same rows.
+fn expect_reported(
+    rt: &impl Abort,
+    alloc: Global,
+    app: &str,
+    input: &str,
+    out: &str,
+    report: &str,
+) -> Result<(), Fail> {
+    let texts = [app, input, ""];
+    let left = run(alloc, &["sim", "app.json"], texts)?;
+    expect(rt, &left, 0, out, report);
+    assert!(rt; is_ended(&left.journal));
+    let mean = run(alloc, &["mean", "app.json"], texts)?;
+    expect(rt, &mean, 0, out, "");
+    assert!(rt; mean.journal.is_empty());
+    Ok(())
+}
+
+#[test]
+fn runs_without_options_are_reported(rt: HostRuntime) -> Result<(), Fail> {
+    let alloc = rt.alloc();
+    let app = counting(alloc, "2", "")?;
+    let words =
+        "window 1 4294967296000000000 2\na\t2\nb\t1\nwindow 2 4294967296000000001 2\na\t3\nc\t1\n";
+    for (input, out, report) in [
+        (
+            "",
+            "",
+            "windows 0\nrows 0\nstarts 0\nwrites 0\nsaves 0\nkills 0\nrepartitions 0\ncommitted 0\n",
+        ),
+        (
+            "a b\na\nc a\n",
+            words,
+            "windows 2\nrows 4\nstarts 8\nwrites 2\nsaves 0\nkills 0\nrepartitions 0\ncommitted 0\n",
+        ),
+    ] {
+        expect_reported(&rt, alloc, app.as_str(), input, out, report)?;
+    }
+    let (lines, rows) = (quick(alloc, 200)?, quick_text(alloc, 200)?);
+    let app = counting(alloc, "10", FOUR)?;
+    let report =
+        "windows 200\nrows 2400\nstarts 1400\nwrites 200\nsaves 21\nkills 0\nrepartitions 0\ncommitted 180\n";
+    expect_reported(
+        &rt,
+        alloc,
+        app.as_str(),
+        lines.as_str(),
+        rows.as_str(),
+        report,
+    )
 }
 
 /// A checkpoint of what carries nothing.
