@@ -30,12 +30,10 @@ fn closed<K: Keeper + Drop, V: Vault + Drop, P: Spools + Drop, J: Naming>(
         (K.stored result.devices.keeper) }
     ensures needed { KeepsNeeded J.run.job J.run.stored result.journal }
     ensures whole { EndsWhole J.run.job J.run.stored result.journal result.fault }
-    ensures checkpoints {
-        HasCheckpoints J.run.job J.run.told V.tells result.fault J.run.entries (V.held result.devices.vault) }
+    ensures checkpoints { HasCheckpoints J.run.job J.run.told V.tells result.fault J.run.entries (V.held result.devices.vault) }
     ensures stopped { IsStopped J.run.job J.run.stored result.journal result.fault J.run.told V.tells P.S.tells (counted J.run)
         (record { keeper = K.faults result.devices.keeper; vault = V.faults result.devices.vault; spools = P.faults result.devices.spools }) }
-    ensures readable {
-        IsReadable J.run.job result.fault (K.sound result.devices.keeper) (K.last result.devices.keeper) }
+    ensures readable { IsReadable J.run.job result.fault (K.sound result.devices.keeper) (K.last result.devices.keeper) }
 {
     core.facts();
     core.close()
