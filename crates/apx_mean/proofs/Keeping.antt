@@ -1,12 +1,15 @@
 -- Rows that are kept as long as they are needed.
-use Rattle.std.proofs.Common.{◌≡◌, ◌≢◌, ◌==◌, ℕ, ◌+◌, ◌<◌, ◌≤◌, ◌⊎◌, inl, inr, Bool, true, false, not, ◌||◌, List, [], ◌∷◌, ◌++◌, length, drop, get_or, slice_index, refl, sym, ap, ◌∙◌, subst, arith, add-one}
+use Rattle.std.proofs.Common.{◌≡◌, ◌≢◌, ◌==◌, ℕ, zero, suc, ◌+◌, ◌<◌, ◌≤◌, ◌⊎◌, inl, inr, Bool, true, false, not, ◌||◌, List, [], ◌∷◌, ◌++◌, length, drop, get_or, slice_get, slice_index, Some, refl, sym, ap, ◌∙◌, subst, arith, add-one}
 use Rattle.std.proofs.Math.ListN.{set}
 use Rattle.std.proofs.Math.Seq.{drop-cons}
 use Rattle.std.proofs.lemmas.Bool.{cases_lt, cases_eq, eq-eqb, ne_eqb}
 use Rattle.std.proofs.lemmas.List.{get_or_append_left, get_or_push, length_push, get_or-set_other, drop_all}
+use Rattle.std.proofs.lemmas.Option.{get_or_from_slice_get}
 use Rattle.std.specs.Bool.{OnTrue}
 use Rattle.std.specs.List.{flat_map, list_any}
+use Rattle.apx_order.specs.Sorted.{sorted}
 use Rattle.apx_tuple.specs.declared.tuple.Tuple.{Tuple}
+use Rattle.apx_tuple.specs.Tuple.{bag_of}
 use Rattle.apx_pass.specs.Graph.{Node}
 use Rattle.apx_pass.specs.Order.{sources, stands_in}
 use Rattle.apx_mean.specs.Kept.{reads_from, IsNeeded, AreKept}
@@ -104,3 +107,19 @@ last-of-two left right rest false apart e = rw (ne_eqb left right apart) (sym e)
 
 pub never-last : (left right : ℕ) (P : Type 0) → left ≡ right → OnTrue (not (left == right)) P
 never-last left right P e = rw (eq-eqb left right e) tt
+
+-- ---- rows at a place
+
+-- the default of a place that is there doesn't count
+pub held-at : {X : Type 0} (xs : List X) (i : ℕ) (x d : X) → i < length xs → x ≡ get_or xs i x → x ≡ get_or xs i d
+held-at [] i x d h e = absurd (omega arith)
+held-at (y ∷ ys) zero x d h e = e
+held-at (y ∷ ys) (suc i) x d h e = held-at ys i x d (omega arith) e
+
+pub held-some : {X : Type 0} (xs : List X) (i : ℕ) (x d : X) → slice_get xs i ≡ Some x → x ≡ get_or xs i d
+held-some xs i x d e = sym (get_or_from_slice_get xs i x d e)
+
+-- no rows are the bag of none
+pub no-rows : (tuples : List Tuple) → tuples ≡ [] → bag_of tuples ≡ []
+unfolding sorted
+no-rows tuples none = ap bag_of none

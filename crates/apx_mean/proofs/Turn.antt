@@ -1,11 +1,13 @@
 -- One turn of the loop over the operators in their order.
-use Rattle.std.proofs.Common.{◌≡◌, ℕ, suc, Bool, true, false, cond, ◌+◌, ◌<◌, ◌≤◌, List, [], ◌∷◌, ◌++◌, length, take, map, get_or, slice_index, Option, refl, sym, ap, ◌∙◌, subst, arith, length-take-le}
+use Rattle.std.proofs.Common.{◌≡◌, ℕ, suc, Bool, true, false, cond, ◌+◌, ◌<◌, ◌≤◌, List, [], ◌∷◌, ◌++◌, length, take, map, get_or, slice_index, Option, inr, refl, sym, ap, ◌∙◌, subst, arith, length-take-le}
 use Rattle.std.proofs.lemmas.List.{take_more, map_push, get_or-map, length-map}
 use Rattle.apx_tuple.specs.declared.progress.Progress.{Progress}
 use Rattle.apx_tuple.specs.declared.tuple.Tuple.{Tuple}
 use Rattle.std.specs.Bool.{MatchBool}
 use Rattle.std.specs.Prelude.{⊤}
 use Rattle.apx_tuple.specs.Kind.{has_right}
+use Rattle.apx_tuple.specs.Size.{IsLarge}
+use Rattle.apx_tuple.specs.Tuple.{tuple_key}
 use Rattle.apx_pass.specs.Graph as graph
 use Rattle.apx_pass.specs.Graph.{Role, Inner, Sink, Node, node_at}
 use Rattle.apx_pass.specs.Groups.{Input}
@@ -87,3 +89,15 @@ within progress order f k p h = let long : length progress ≡ length order = ap
 pub starts-at : (flow : Dataflow) (order : List ℕ) → map (λ _. at_start) order ≡ map (progress_after flow 0) order
 unfolding progress_after
 starts-at flow order = refl
+
+-- rows that are too large for a bag are too large in the pass
+pub rows-large : (flow : Dataflow) (order : List ℕ) → IsOrder flow.nodes order → (passed k : ℕ) → passed < windows flow → k < length order → (rows : List Tuple) → rows ≡ rows_at flow (suc passed) (slice_index order k) →
+    IsLarge tuple_key rows → IsLargeDataflow flow
+unfolding rows_at
+rows-large flow order o passed k within h rows is large = record {
+  passed = passed;
+  within = within;
+  operator = slice_index order k;
+  there = o.known k h;
+  is = record { is = inr (inr (inr (subst (IsLarge tuple_key) is large))) };
+}

@@ -8,8 +8,8 @@ ghost use Rattle.apx_mean.specs.Kept.{reads_from, AreKept};
 ghost use Rattle.apx_mean.specs.Views.{AreCome};
 
 use crate::pass::place_of;
+use crate::rows::Rows;
 use apx_dag::{Dag, Node, Role};
-use apx_tuple::Bag;
 use std::alloc::{AllocError, Global};
 use std::mem;
 
@@ -43,21 +43,21 @@ fn take(
     alloc: Global,
     order: &[u16],
     sink: usize,
-    rows: &mut Vec<Bag>,
+    rows: &mut Vec<Rows>,
     source: u16,
     is_last: bool,
-) -> Result<Bag, AllocError>
+) -> Result<Rows, AllocError>
     requires long { length rows.old.items ≤ length order.now }
     requires there { IsBefore order.now (length rows.old.items) source }
     ensures came { (gives : ℕ → List Tuple) (rest : List ℕ) → AreKept gives order.now sink (source ∷ rest) rows.old.items →
-        IfOk result (λ bag. bag ≡ gives source) }
+        IfOk result (λ came. came ≡ gives source) }
     ensures kept { (gives : ℕ → List Tuple) (rest : List ℕ) → OnTrue is_last (stands_in rest source ≡ false) →
         AreKept gives order.now sink (source ∷ rest) rows.old.items → OnOk result (AreKept gives order.now sink rest rows.new.items) }
     ensures same { length rows.new.items ≡ length rows.old.items }
 {
     let place = place_of(order, rows.len(), source);
     if is_last && place != sink {
-        return Ok(mem::replace(&mut rows[place], Bag::new(alloc)));
+        return Ok(mem::replace(&mut rows[place], Rows::new(alloc)));
     }
     rows[place].copy(alloc)
 }
@@ -68,9 +68,9 @@ fn came_one(
     dag: &Dag,
     order: &[u16],
     sink: usize,
-    rows: &mut Vec<Bag>,
+    rows: &mut Vec<Rows>,
     source: u16,
-) -> Result<(Bag, Bag), AllocError>
+) -> Result<(Rows, Rows), AllocError>
     requires order { IsOrder dag.now order.now }
     requires long { length rows.old.items < length order.now }
     requires there { IsBefore order.now (length rows.old.items) source }
@@ -84,7 +84,7 @@ fn came_one(
 {
     let is_last = !is_read_from(dag, order, rows.len() + 1, source);
     let left = take(alloc, order, sink, rows, source, is_last)?;
-    Ok((left, Bag::new(alloc)))
+    Ok((left, Rows::new(alloc)))
 }
 
 /// What comes on the two ports of the next operator of the order.
@@ -93,10 +93,10 @@ fn came_both(
     dag: &Dag,
     order: &[u16],
     sink: usize,
-    rows: &mut Vec<Bag>,
+    rows: &mut Vec<Rows>,
     left: u16,
     right: u16,
-) -> Result<(Bag, Bag), AllocError>
+) -> Result<(Rows, Rows), AllocError>
     requires order { IsOrder dag.now order.now }
     requires long { length rows.old.items < length order.now }
     requires left { IsBefore order.now (length rows.old.items) left }
@@ -125,8 +125,8 @@ pub(crate) fn came(
     dag: &Dag,
     order: &[u16],
     sink: usize,
-    rows: &mut Vec<Bag>,
-) -> Result<(Bag, Bag), AllocError>
+    rows: &mut Vec<Rows>,
+) -> Result<(Rows, Rows), AllocError>
     requires order { IsOrder dag.now order.now }
     requires long { length rows.old.items < length order.now }
     ensures came { (gives : ℕ → List Tuple) →
@@ -139,7 +139,7 @@ pub(crate) fn came(
 {
     let node = dag.node(order[rows.len()]);
     match &node.role {
-        Role::Input { .. } => Ok((Bag::new(alloc), Bag::new(alloc))),
+        Role::Input { .. } => Ok((Rows::new(alloc), Rows::new(alloc))),
         Role::Inner(kind) if kind.has_right() => {
             came_both(alloc, dag, order, sink, rows, node.left, node.right)
         }

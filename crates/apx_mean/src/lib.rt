@@ -11,6 +11,7 @@ mod came;
 mod gather;
 mod operator;
 mod pass;
+mod rows;
 #[cfg(test)]
 mod tests;
 mod whole;

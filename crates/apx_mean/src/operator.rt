@@ -7,9 +7,10 @@ ghost use Rattle.apx_pass.specs.Large.{IsLargePassed, right_came};
 ghost use Rattle.apx_mean.specs.Views.{IsPassed, IsInner};
 
 use crate::gather::{Passed, gather};
+use crate::rows::Rows;
 use apx_dag::{Node, Role};
 use apx_input::Windows;
-use apx_tuple::{Bag, Kind, Progress, Short};
+use apx_tuple::{Kind, Progress, Short};
 use std::alloc::{AllocError, Global};
 
 /// An input gives its window.
@@ -20,8 +21,8 @@ fn pass_input(alloc: Global, input: Option<&Windows>, window: u32) -> Result<Pas
         (record { progress = at_start; rows = rows_of_input (option_copied input.entry) window })) }
 {
     let rows = match input {
-        Some(windows) => windows.bag(window)?,
-        None => Bag::new(alloc),
+        Some(windows) => Rows::of_bag(windows.bag(window)?),
+        None => Rows::new(alloc),
     };
     Ok(Passed {
         progress: Progress::new(alloc),
@@ -30,7 +31,7 @@ fn pass_input(alloc: Global, input: Option<&Windows>, window: u32) -> Result<Pas
 }
 
 /// The sink gives what reaches it.
-fn pass_sink(alloc: Global, left: Bag) -> Passed
+fn pass_sink(alloc: Global, left: Rows) -> Passed
     ensures { IsPassed result.progress result.rows (record { progress = at_start; rows = left }) }
 {
     Passed {
@@ -40,16 +41,16 @@ fn pass_sink(alloc: Global, left: Bag) -> Passed
 }
 
 /// What comes on the right port of an operator of this kind: nothing, where it has none.
-fn right_of(alloc: Global, kind: &Kind, right: Bag) -> Bag
+fn right_of(alloc: Global, kind: &Kind, right: Rows) -> Rows
     ensures { result ≡ cond (has_right kind.now) right [] }
 {
     if kind.has_right() {
         return right;
     }
-    Bag::new(alloc)
+    Rows::new(alloc)
 }
 
-/// What an operator makes of the window `window`, counted from 1, from the bags that come on its ports.
+/// What an operator makes of the window `window`, counted from 1, from the rows that come on its ports.
 ///
 /// `Large` comes only where what came since its last step, or what it makes of it, is too large.
 #[tactic(auto, unfolding(apx_pass::specs::Pass::pass_role, apx_pass::specs::Large::right_came))]
@@ -59,8 +60,8 @@ pub(crate) fn pass_operator(
     input: Option<&Windows>,
     window: u32,
     before: Progress,
-    left: Bag,
-    right: Bag,
+    left: Rows,
+    right: Rows,
 ) -> Result<Passed, Short>
     requires window { 1 ≤ window }
     requires app_windows { 0 < node.now.app_windows }

@@ -1,5 +1,5 @@
 //! One pass over a graph, a window at a time.
-ghost use Rattle.std.specs.Prelude.{◌≡◌, ◌<◌, ◌≤◌, ◌+◌, ℕ, suc, [], length, map, slice_index, IfOk};
+ghost use Rattle.std.specs.Prelude.{◌≡◌, ◌<◌, ◌≤◌, ◌+◌, ℕ, suc, [], length, map, slice_index, slice_index_or, IfOk};
 ghost use Rattle.std.specs.Option.{option_copied};
 ghost use Rattle.apx_pass.specs.Order.{IsBefore, IsOrder};
 ghost use Rattle.apx_pass.specs.Valid.{IsValid};
@@ -10,6 +10,7 @@ ghost use Rattle.apx_pass.specs.Large.{IsLargeDataflow};
 
 use crate::came::came;
 use crate::operator::pass_operator;
+use crate::rows::Rows;
 use apx_dag::Dag;
 use apx_input::Windows;
 use apx_tuple::{Bag, Progress, Short};
@@ -96,8 +97,7 @@ impl<'a> OnePass<'a> {
             progress,
             passed,
         } = self;
-        let (progress, mut rows) = pass_all(alloc, dag, inputs, order, sink, passed, progress)?;
-        let rows = rows.swap_remove(sink);
+        let (progress, rows) = pass_all(alloc, dag, inputs, order, sink, passed, progress)?;
         let pass = OnePass {
             dag,
             inputs,
@@ -145,8 +145,15 @@ fn input_of<'a>(dag: &Dag, inputs: &'a [Windows], operator: u16) -> Option<&'a W
     inputs.get(dag.inputs_before(operator))
 }
 
-/// What each operator carries on from the window after `passed`, in the order, and the rows that are given in it: those of
-/// the sink stand at its place.
+/// The rows that stand at the place.
+fn taken(mut rows: Vec<Rows>, place: usize) -> Rows
+    requires { place < length rows.items }
+    ensures { result ≡ slice_index_or rows.items place [] }
+{
+    rows.swap_remove(place)
+}
+
+/// What each operator carries on from the window after `passed`, in the order, and the rows that reach the sink in it.
 fn pass_all(
     alloc: Global,
     dag: &Dag,
@@ -155,7 +162,33 @@ fn pass_all(
     sink: usize,
     passed: u32,
     progress: Vec<Progress>,
-) -> Result<(Vec<Progress>, Vec<Bag>), Short>
+) -> Result<(Vec<Progress>, Bag), Short>
+    requires passed { passed < 20000 }
+    requires within { passed < windows (dataflow_of dag.now inputs.now) }
+    requires order { IsOrder dag.now order.now }
+    requires valid { IsValid dag.now }
+    requires sink { sink < length order.now }
+    requires carried { progress.items ≡ map (progress_after (dataflow_of dag.now inputs.now) passed) order.now }
+    ensures progress { IfOk result (λ r. r.0.items ≡ map (progress_after (dataflow_of dag.now inputs.now) (suc passed)) order.now) }
+    ensures rows { IfOk result (λ r. r.1 ≡ rows_at (dataflow_of dag.now inputs.now) (suc passed) (slice_index order.now sink)) }
+    ensures large { result ≡ Err Short.Large → IsLargeDataflow (dataflow_of dag.now inputs.now) }
+{
+    let (progress, all) = pass_each(alloc, dag, inputs, order, sink, passed, progress)?;
+    let rows = taken(all, sink).sorted()?;
+    Ok((progress, rows))
+}
+
+/// What each operator carries on from the window after `passed`, in the order, and the rows that are given in it: those of
+/// the sink stand at its place.
+fn pass_each(
+    alloc: Global,
+    dag: &Dag,
+    inputs: &[Windows],
+    order: &[u16],
+    sink: usize,
+    passed: u32,
+    progress: Vec<Progress>,
+) -> Result<(Vec<Progress>, Vec<Rows>), Short>
     requires passed { passed < 20000 }
     requires within { passed < windows (dataflow_of dag.now inputs.now) }
     requires order { IsOrder dag.now order.now }

@@ -2,7 +2,7 @@ use Rattle.std.proofs.Common.{◌≡◌, map, take, length, suc}
 use Rattle.apx_pass.specs.Pass.{progress_after, rows_at}
 use Rattle.apx_mean.specs.Kept.{reads_from, AreKept}
 use Rattle.apx_mean.specs.Passing.{dataflow_of}
-use Rattle.apx_mean.proofs.pass.pass_all.Given as goal
+use Rattle.apx_mean.proofs.pass.pass_each.Given as goal
 
 abbrev pub invariant-loop-before : goal.invariant-loop-before
 invariant-loop-before l = record {
