@@ -32,6 +32,11 @@ impl Kept {
             Kept::Spilled(marks, _) => marks.window,
         }
     }
+
+    // Whether the block is in the spool.
+    fn is_spilled(&self) -> bool {
+        matches!(self, Kept::Spilled(..))
+    }
 }
 
 /// The block that was fetched last, and its number.
@@ -43,7 +48,8 @@ pub struct Fetched {
     pub block: Block,
 }
 
-/// Moves the first blocks to the spool, as many as are named. The first of all has the number `first`.
+/// Moves the first blocks to the spool, as many as are named. The first of all has the number `first`. Those that are there
+/// already stand before all others, and aren't gone over again.
 pub fn spill_front<S: Spool>(
     kept: &mut VecDeque<Kept>,
     spool: &mut S,
@@ -56,7 +62,8 @@ pub fn spill_front<S: Spool>(
     ensures put { ArePut S.tells (S.held spool.old) first kept.old.items → ArePut S.tells (S.held spool.new) first kept.new.items }
     ensures cause { IfErr result IsOfSpool }
 {
-    for index in 0..count {
+    let spilled = kept.partition_point(Kept::is_spilled);
+    for index in spilled..count {
         spill_one(kept, spool, first, index)?;
     }
     Ok(())
